@@ -1,0 +1,55 @@
+-- A boolean circuit, when it is well-formed, and what it computes. Assumes nothing.
+use mathlib.Core.Path.{_≡_}
+use mathlib.Core.Bool.{Bool, false}
+use mathlib.Core.List.{List, [], _∷_, _++_, map}
+use Prim.Native.Nat.{ℕ, _+_, _<_, _≤_}
+use lib.ListN.{length, getD}
+use Rattle.circuit.specs.Numbers.{binary}
+use Rattle.circuit.specs.declared.gates.Gate.{Gate}
+
+-- wires are numbered from 0: the inputs first, of which the first are the opener's, then one for each gate
+pub record Circuit : Type 0 where
+  pub inputs : ℕ
+  pub opener : ℕ
+  pub gates : List Gate
+  pub outputs : List ℕ
+
+abbrev pub wireCount : Circuit → ℕ
+wireCount c = c .inputs + length (c .gates)
+
+abbrev pub Below : ℕ → List ℕ → Type 0
+Below n ws = (k : ℕ) → k < length ws → getD ws k 0 < n
+
+-- two wires that are made already, and what the gate gives for 0 0, 0 1, 1 0, 1 1
+abbrev pub GoodGate : ℕ → Gate → Type 0
+GoodGate made g = (length (g .wires) ≡ 2) × (getD (g .wires) 0 0 < made) × (getD (g .wires) 1 0 < made) × (length (g .gives) ≡ 4)
+
+abbrev pub noGate : Gate
+noGate = record { wires = []; gives = [] }
+
+abbrev pub GoodGates : ℕ → List Gate → Type 0
+GoodGates made gs = (k : ℕ) → k < length gs → GoodGate (made + k) (getD gs k noGate)
+
+abbrev pub WellFormed : Circuit → Type 0
+WellFormed c =
+    (c .inputs ≤ 1024) × (c .opener ≤ c .inputs) × (length (c .gates) ≤ 65536) × (length (c .outputs) ≤ 1024)
+    × GoodGates (c .inputs) (c .gates) × Below (wireCount c) (c .outputs)
+
+abbrev pub at : List Bool → ℕ → Bool
+at vs w = getD vs w false
+
+-- the values of some wires
+abbrev pub atAll : List Bool → List ℕ → List Bool
+atAll vs ws = map (at vs) ws
+
+-- the values of a gate's wires choose from its truth table
+abbrev pub gateValue : Gate → List Bool → Bool
+gateValue g vs = at (g .gives) (binary (atAll vs (g .wires)))
+
+-- the values of all wires, from those of the wires so far
+unfoldable pub values : List Gate → List Bool → List Bool
+values [] vs = vs
+values (g ∷ gs) vs = values gs (vs ++ (gateValue g vs ∷ []))
+
+abbrev pub result : Circuit → List Bool → List Bool
+result c xs = atAll (values (c .gates) xs) (c .outputs)

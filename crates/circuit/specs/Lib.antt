@@ -1,0 +1,5 @@
+pub mod Refusals
+pub mod Numbers
+pub mod Circuit
+pub mod Format
+pub mod Kept

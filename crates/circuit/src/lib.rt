@@ -1,0 +1,13 @@
+// Sheets, which are boolean circuits: their bytes, and what they mean.
+mod bytes;
+mod gates;
+mod reading;
+mod refusals;
+mod sheets;
+
+pub use gates::Gate;
+pub use refusals::Failure;
+pub use refusals::FailureFromAlloc;
+pub use refusals::FailureFromRefusal;
+pub use refusals::Refusal;
+pub use sheets::Sheet;
