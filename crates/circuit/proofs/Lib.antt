@@ -1,2 +1,4 @@
 mod Numbers
 mod Many
+mod Accepted
+mod Written

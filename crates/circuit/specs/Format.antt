@@ -57,13 +57,16 @@ abbrev pub wire : ℕ → List ℕ → Part ℕ
 wire made xs = andThen (field 4 xs) (λ p. cond (ltb (p .0) made) (Ok p) (Err NotMade))
 
 -- a gate is read whole, and of its faults the lowest number wins
-abbrev pub wholeGate : ℕ → ℕ → ℕ → ℕ → List ℕ → Part Gate
-wholeGate made left right gives rest =
-    cond (ltb left made && ltb right made) (cond (leb gives 15) (Ok (record { wires = left ∷ right ∷ []; gives = bits 4 gives }, rest)) (Err Gives)) (Err NotMade)
+abbrev pub gateOf : ℕ → ℕ → ℕ → Gate
+gateOf left right gives = record { wires = left ∷ right ∷ []; gives = bits 4 gives }
+
+abbrev pub checked : ℕ → ℕ → ℕ → ℕ → List ℕ → Part Gate
+checked made left right gives rest =
+    cond (ltb left made && ltb right made) (cond (leb gives 15) (Ok (gateOf left right gives, rest)) (Err Gives)) (Err NotMade)
 
 abbrev pub gate : ℕ → List ℕ → Part Gate
 gate made xs =
-    andThen (field 4 xs) (λ l. andThen (field 4 (l .1)) (λ r. andThen (field 1 (r .1)) (λ t. wholeGate made (l .0) (r .0) (t .0) (t .1))))
+    andThen (field 4 xs) (λ l. andThen (field 4 (l .1)) (λ r. andThen (field 1 (r .1)) (λ t. checked made (l .0) (r .0) (t .0) (t .1))))
 
 -- n parts one after the other, the first of them number k; acc has those before
 unfoldable pub many : {X : Type 0} → (ℕ → List ℕ → Part X) → ℕ → ℕ → List X → List ℕ → Part (List X)
@@ -89,8 +92,11 @@ outputs made xs = andThen (count 2 1024 xs) (λ n. many (λ _. wire made) (n .0)
 abbrev pub ended : {X : Type 0} → X × List ℕ → Result X Refusal
 ended p = cond (eqb (length (p .1)) 0) (Ok (p .0)) (Err Length)
 
+abbrev pub circuitOf : Head → List Gate → List ℕ → Circuit
+circuitOf h gs ws = record { inputs = h .inputs; opener = h .opener; gates = gs; outputs = ws }
+
 -- a circuit from its bytes, or the first fault
 abbrev pub parse : List ℕ → Result Circuit Refusal
 parse xs =
     andThen (head xs) (λ h. andThen (gates (h .0 .gates) (h .0 .inputs) (h .1)) (λ g. andThen (outputs (h .0 .inputs + h .0 .gates) (g .1)) (λ o.
-    ended (record { inputs = h .0 .inputs; opener = h .0 .opener; gates = g .0; outputs = o .0 }, o .1))))
+    ended (circuitOf (h .0) (g .0) (o .0), o .1))))

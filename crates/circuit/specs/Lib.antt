@@ -3,3 +3,4 @@ pub mod Numbers
 pub mod Circuit
 pub mod Format
 pub mod Kept
+pub mod Laws

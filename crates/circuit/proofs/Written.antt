@@ -1,0 +1,104 @@
+-- What is written is read back: for each part, for many parts, for the whole. Assumes nothing.
+use mathlib.Core.Path.{_≡_, refl, sym, ap, _∙_}
+use mathlib.Core.Bool.{Bool, true, false, cond, _&&_}
+use mathlib.Core.List.{List, [], _∷_, _++_, append-assoc}
+use Prim.Native.Nat.{ℕ, zero, suc, _+_, _<_, _≤_, _^_}
+use native.Mathlib.Numerals.{add-one}
+use native.Mathlib.Omega.{arith}
+use lib.Dec.{eqb, ltb, leb}
+use lib.ListN.{length, getD, take, drop}
+use Rattle.std.specs.Joined.{joined}
+use Rattle.std.specs.declared.result.Result.{Result}
+use Rattle.std.specs.declared.result.Result.the-variants.{Ok, Err}
+use Rattle.std.proofs.shelf.Lists.{take-at, drop-at, append-nil, length-append}
+use Rattle.std.proofs.shelf.Tests.{le-leb, lt-ltb, eq-eqb, and-from, cond-true}
+use Rattle.circuit.specs.Numbers.{digits, bits, binary, front}
+use Rattle.circuit.specs.Circuit.{Circuit, GoodGate, noGate}
+use Rattle.circuit.specs.Format.{Part, andThen, field, count, wire, gate, gateOf, checked, gateBytes, many, kind, head, gates, outputs, circuitOf, ended, encode, parse}
+use Rattle.circuit.specs.Laws.{ReadBack}
+use Rattle.circuit.specs.declared.gates.Gate.{Gate}
+use Rattle.circuit.specs.declared.reading.Head.{Head}
+use Rattle.circuit.specs.declared.refusals.Refusal.{Refusal}
+use Rattle.circuit.specs.declared.refusals.Refusal.the-variants.{Length, Count, NotMade, Gives}
+use Rattle.circuit.proofs.Numbers.{one-byte, length-digits, number-digits, bits-binary, binary-lt}
+
+field-back : (n x : ℕ) (rest : List ℕ) → x < 256 ^ n → field n (digits 256 n x ++ rest) ≡ Ok (x, rest)
+field-back n x rest small =
+    let len = length-digits 256 n x in
+    let long : n ≤ length (digits 256 n x ++ rest) = omega (arith, length-append (digits 256 n x) rest) in
+    rw (le-leb n (length (digits 256 n x ++ rest)) long, take-at (digits 256 n x) rest n len, drop-at (digits 256 n x) rest n len, number-digits 256 n x (omega arith) small)
+
+then-is : {X Y : Type 0} {x : X} {r : Result X Refusal} (f : X → Result Y Refusal) → r ≡ Ok x → andThen r f ≡ f x
+then-is f e = ap (λ r. andThen r f) e
+
+count-back : (n most x : ℕ) (rest : List ℕ) → x < 256 ^ n → x ≤ most → count n most (digits 256 n x ++ rest) ≡ Ok (x, rest)
+count-back n most x rest small within = then-is (λ p. cond (leb (p .0) most) (Ok p) (Err Count)) (field-back n x rest small) ∙ rw (le-leb x most within)
+
+wire-back : (made x : ℕ) (rest : List ℕ) → made ≤ 256 ^ 4 → x < made → wire made (digits 256 4 x ++ rest) ≡ Ok (x, rest)
+wire-back made x rest fits below = then-is (λ p. cond (ltb (p .0) made) (Ok p) (Err NotMade)) (field-back 4 x rest (omega arith)) ∙ rw (lt-ltb x made below)
+
+two-of : (ws : List ℕ) → length ws ≡ 2 → ws ≡ getD ws 0 0 ∷ getD ws 1 0 ∷ []
+two-of [] e = absurd (omega arith)
+two-of (a ∷ []) e = absurd (omega arith)
+two-of (a ∷ b ∷ []) e = refl
+two-of (a ∷ b ∷ c ∷ ws) e = absurd (omega arith)
+
+table-small : (ts : List Bool) → length ts ≡ 4 → binary ts ≤ 15
+table-small ts four = let small : binary ts < 2 ^ 4 = rw four at (binary-lt ts) in omega arith
+
+checked-back : (made : ℕ) (g : Gate) (rest : List ℕ) → GoodGate made g → checked made (getD (g .wires) 0 0) (getD (g .wires) 1 0) (binary (g .gives)) rest ≡ Ok (g, rest)
+checked-back made g rest good =
+    let wires : getD (g .wires) 0 0 ∷ getD (g .wires) 1 0 ∷ [] ≡ g .wires = sym (two-of (g .wires) (good .0)) in
+    let table : bits 4 (binary (g .gives)) ≡ g .gives = bits-binary 4 (g .gives) (good .3) in
+    rw (lt-ltb (getD (g .wires) 0 0) made (good .1), lt-ltb (getD (g .wires) 1 0) made (good .2), le-leb (binary (g .gives)) 15 (table-small (g .gives) (good .3)), table, wires)
+
+gate-back : (made : ℕ) (g : Gate) (rest : List ℕ) → made ≤ 256 ^ 4 → GoodGate made g → gate made (gateBytes g ++ rest) ≡ Ok (g, rest)
+gate-back made g rest fits good =
+    let l = getD (g .wires) 0 0 in
+    let r = getD (g .wires) 1 0 in
+    let t = binary (g .gives) in
+    let small : t < 256 = (let s = table-small (g .gives) (good .3) in omega arith) in
+    let bytes : gateBytes g ++ rest ≡ digits 256 4 l ++ (digits 256 4 r ++ (digits 256 1 t ++ rest)) =
+    (let wires : joined (digits 256 4) (g .wires) ≡ digits 256 4 l ++ (digits 256 4 r ++ []) = ap (joined (digits 256 4)) (two-of (g .wires) (good .0)) in
+    let one = one-byte t small in
+    rw (wires, one) (simp (append-assoc, append-nil))) in
+    ap (gate made) bytes ∙ then-is _ (field-back 4 l (digits 256 4 r ++ (digits 256 1 t ++ rest)) (omega (arith, good .1)))
+    ∙ then-is _ (field-back 4 r (digits 256 1 t ++ rest) (omega (arith, good .2))) ∙ then-is _ (field-back 1 t rest small) ∙ checked-back made g rest good
+
+module _ {X : Type 0} (one : ℕ → List ℕ → Part X) (write : X → List ℕ) (Good : ℕ → X → Type 0) (most : ℕ) (d : X)
+    (step : (k : ℕ) (x : X) (rest : List ℕ) → k < most → Good k x → one k (write x ++ rest) ≡ Ok (x, rest)) where
+  many-back : (xs : List X) (k : ℕ) (acc : List X) (rest : List ℕ) → k + length xs ≤ most → ((j : ℕ) → j < length xs → Good (k + j) (getD xs j d)) →
+      many one (length xs) k acc (joined write xs ++ rest) ≡ Ok (acc ++ xs, rest)
+  unfolding many
+  many-back [] k acc rest room good = rw append-nil
+  many-back (x ∷ xs) k acc rest room good =
+      let here : Good k x = (let same : k + 0 ≡ k = omega arith in rw same at (good 0 (omega arith))) in
+      let later : (j : ℕ) → j < length xs → Good (k + 1 + j) (getD xs j d) = λ j below. (let same : k + suc j ≡ k + 1 + j = omega arith in rw same at (good (suc j) (omega arith))) in
+      rw (append-assoc (write x) (joined write xs) rest, step k x (joined write xs ++ rest) (omega arith) here)
+      (many-back xs (k + 1) (acc ++ (x ∷ [])) rest (omega arith) later ∙ rw (append-assoc acc (x ∷ []) xs))
+
+kind-back : (rest : List ℕ) → kind 1 (1 ∷ rest) ≡ Ok rest
+kind-back rest = rw (le-leb 1 (suc (length rest)) (omega arith))
+
+head-back : (h : Head) (rest : List ℕ) → h .inputs ≤ 1024 → h .opener ≤ h .inputs → h .gates ≤ 65536 →
+    head (1 ∷ (digits 256 2 (h .inputs) ++ (digits 256 2 (h .opener) ++ (digits 256 4 (h .gates) ++ rest)))) ≡ Ok (h, rest)
+head-back h rest few within most =
+    then-is _ (kind-back (digits 256 2 (h .inputs) ++ (digits 256 2 (h .opener) ++ (digits 256 4 (h .gates) ++ rest))))
+    ∙ then-is _ (count-back 2 1024 (h .inputs) (digits 256 2 (h .opener) ++ (digits 256 4 (h .gates) ++ rest)) (omega arith) few)
+    ∙ then-is _ (count-back 2 (h .inputs) (h .opener) (digits 256 4 (h .gates) ++ rest) (omega arith) within)
+    ∙ then-is _ (count-back 4 65536 (h .gates) rest (omega arith) most)
+
+pub read-back : ReadBack
+read-back c good =
+    let h : Head = record { inputs = c .inputs; opener = c .opener; gates = length (c .gates) } in
+    let made = c .inputs + length (c .gates) in
+    let gates-room : c .inputs + length (c .gates) ≤ 256 ^ 4 = (let a = good .0 in let b = good .2 in omega arith) in
+    let outputs-room : 0 + length (c .outputs) ≤ 256 ^ 4 = (let a = good .3 in omega arith) in
+    let tail = digits 256 2 (length (c .outputs)) ++ joined (digits 256 4) (c .outputs) in
+    let wires-back : many (λ _. wire made) (length (c .outputs)) 0 [] (joined (digits 256 4) (c .outputs)) ≡ Ok (c .outputs, []) =
+    ap (many (λ _. wire made) (length (c .outputs)) 0 []) (sym (append-nil (joined (digits 256 4) (c .outputs))))
+    ∙ many-back (λ _. wire made) (digits 256 4) (λ _ w. w < made) (256 ^ 4) 0 (λ _ x rest _ below. wire-back made x rest gates-room below) (c .outputs) 0 [] [] outputs-room
+    (good .5) in
+    then-is _ (head-back h (joined gateBytes (c .gates) ++ tail) (good .0) (good .1) (good .2))
+    ∙ then-is _ (many-back gate gateBytes GoodGate (256 ^ 4) noGate (λ k g rest room fine. gate-back k g rest (omega arith) fine) (c .gates) (c .inputs) [] tail gates-room (good .4))
+    ∙ then-is _ (then-is _ (count-back 2 1024 (length (c .outputs)) (joined (digits 256 4) (c .outputs)) (let a = good .3 in omega arith) (good .3)) ∙ wires-back)
