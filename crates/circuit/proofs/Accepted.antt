@@ -19,21 +19,14 @@ use Rattle.std.proofs.shelf.Lists.{take-append-drop, length-take-le, append-nil
 use Rattle.std.proofs.shelf.Tests.{leb-true, ltb-true, eqb-true, and-parts}
 use Rattle.circuit.specs.Numbers.{digits, bits, binary, front}
 use Rattle.circuit.specs.Circuit.{Circuit, GoodGate, GoodGates, Below, WellFormed, noGate}
-use Rattle.circuit.specs.Format.{Part, andThen, field, count, wire, gate, gateOf, checked, gateBytes, many, kind, head, gates, outputs, circuitOf, ended, encode, parse}
+use Rattle.circuit.specs.Format.{Part, andThen, field, count, wire, gate, gateOf, checked, gateBytes, many, kind, head, gates, outputs, assembled, ended, encode, parse}
 use Rattle.circuit.specs.Laws.{Accepted}
 use Rattle.circuit.specs.declared.gates.Gate.{Gate}
 use Rattle.circuit.specs.declared.reading.Head.{Head}
 use Rattle.circuit.specs.declared.refusals.Refusal.{Refusal}
 use Rattle.circuit.specs.declared.refusals.Refusal.the-variants.{Length, Count, NotMade, Gives}
+use Rattle.circuit.proofs.AndThen.{then-ok, cond-ok}
 use Rattle.circuit.proofs.Numbers.{one-byte, digits-number, binary-bits, length-bits}
-
-then-ok : {X Y P : Type 0} {y : Y} (r : Result X Refusal) (f : X → Result Y Refusal) → andThen r f ≡ Ok y → ((x : X) → r ≡ Ok x → f x ≡ Ok y → P) → P
-then-ok (Ok x) f e go = go x refl e
-then-ok (Err k) f e go = absurd (let z : _≡_ {A = ℕ} 0 1 = cc in omega arith)
-
-cond-ok : {X : Type 0} {y : X} (b : Bool) (r : Result X Refusal) (k : Refusal) → cond b r (Err k) ≡ Ok y → (b ≡ true) × (r ≡ Ok y)
-cond-ok true r k e = (refl, e)
-cond-ok false r k e = absurd (let z : _≡_ {A = ℕ} 0 1 = cc in omega arith)
 
 after : {A : Type 0} {t x y : List A} (a : List A) → t ≡ a ++ x → x ≡ y → t ≡ a ++ y
 after a p q = p ∙ ap (λ z. a ++ z) q
@@ -163,7 +156,7 @@ whole : (h : Head) (gs : List Gate) (ws : List ℕ) (n : ℕ) (text a b d r : Li
     text ≡ 1 ∷ (digits 256 2 (h .inputs) ++ (digits 256 2 (h .opener) ++ (digits 256 4 (h .gates) ++ a))) →
     h .inputs ≤ 1024 → h .opener ≤ h .inputs → h .gates ≤ 65536 → n ≤ 1024 →
     Items gateBytes GoodGate (h .gates) (h .inputs) a gs b → b ≡ digits 256 2 n ++ d →
-    Items (digits 256 4) (λ _ w. w < h .inputs + h .gates) n 0 d ws r → length r ≡ 0 → WellFormed (circuitOf h gs ws) × (encode (circuitOf h gs ws) ≡ text)
+    Items (digits 256 4) (λ _ w. w < h .inputs + h .gates) n 0 d ws r → length r ≡ 0 → WellFormed (assembled h gs ws) × (encode (assembled h gs ws) ≡ text)
 unfolding Items
 whole h gs ws n text a b d r head-is few within most-gates most-outputs gates-are count-is outputs-are end =
     let g : length gs ≡ h .gates = gates-are .0 in
@@ -191,8 +184,8 @@ accepted text c under e =
     let g-from = many-from gate gateBytes GoodGate gate-from (h .0 .gates) (h .0 .inputs) [] (h .1) g (h-from .1) came-g in
     let n-from = count-from 2 1024 (g .1) n (g-from .2 .1 .1) came-n in
     let w-from = many-from (λ _. wire made) (digits 256 4) (λ _ w. w < made) (λ _. wire-from made) (n .0) 0 [] (n .1) o (n-from .0 .1) came-w in
-    let t = cond-ok {y = c} (eqb (length (o .1)) 0) (Ok (circuitOf (h .0) (g .0) (o .0))) Length e in
-    let same : c ≡ circuitOf (h .0) (g-from .0) (w-from .0) = cc (t .1, g-from .1, w-from .1) in
+    let t = cond-ok {y = c} (eqb (length (o .1)) 0) (Ok (assembled (h .0) (g .0) (o .0))) Length e in
+    let same : c ≡ assembled (h .0) (g-from .0) (w-from .0) = cc (t .1, g-from .1, w-from .1) in
     rw same
     (whole (h .0) (g-from .0) (w-from .0) (n .0) text (h .1) (g .1) (n .1) (o .1) (h-from .0) (h-from .2) (h-from .3) (h-from .4) (n-from .1) (g-from .2) (n-from .0 .0)
     (w-from .2) (eqb-true (length (o .1)) 0 (t .0)))))))

@@ -1,4 +1,6 @@
 mod Numbers
+mod AndThen
 mod Many
 mod Accepted
 mod Written
+mod Drafts

@@ -14,12 +14,13 @@ use Rattle.std.proofs.shelf.Lists.{take-at, drop-at, append-nil, length-append}
 use Rattle.std.proofs.shelf.Tests.{le-leb, lt-ltb, eq-eqb, and-from, cond-true}
 use Rattle.circuit.specs.Numbers.{digits, bits, binary, front}
 use Rattle.circuit.specs.Circuit.{Circuit, GoodGate, noGate}
-use Rattle.circuit.specs.Format.{Part, andThen, field, count, wire, gate, gateOf, checked, gateBytes, many, kind, head, gates, outputs, circuitOf, ended, encode, parse}
+use Rattle.circuit.specs.Format.{Part, andThen, field, count, wire, gate, gateOf, checked, gateBytes, many, kind, head, gates, outputs, assembled, ended, encode, parse}
 use Rattle.circuit.specs.Laws.{ReadBack}
 use Rattle.circuit.specs.declared.gates.Gate.{Gate}
 use Rattle.circuit.specs.declared.reading.Head.{Head}
 use Rattle.circuit.specs.declared.refusals.Refusal.{Refusal}
 use Rattle.circuit.specs.declared.refusals.Refusal.the-variants.{Length, Count, NotMade, Gives}
+use Rattle.circuit.proofs.AndThen.{then-is}
 use Rattle.circuit.proofs.Numbers.{one-byte, length-digits, number-digits, bits-binary, binary-lt}
 
 field-back : (n x : ℕ) (rest : List ℕ) → x < 256 ^ n → field n (digits 256 n x ++ rest) ≡ Ok (x, rest)
@@ -27,9 +28,6 @@ field-back n x rest small =
     let len = length-digits 256 n x in
     let long : n ≤ length (digits 256 n x ++ rest) = omega (arith, length-append (digits 256 n x) rest) in
     rw (le-leb n (length (digits 256 n x ++ rest)) long, take-at (digits 256 n x) rest n len, drop-at (digits 256 n x) rest n len, number-digits 256 n x (omega arith) small)
-
-then-is : {X Y : Type 0} {x : X} {r : Result X Refusal} (f : X → Result Y Refusal) → r ≡ Ok x → andThen r f ≡ f x
-then-is f e = ap (λ r. andThen r f) e
 
 count-back : (n most x : ℕ) (rest : List ℕ) → x < 256 ^ n → x ≤ most → count n most (digits 256 n x ++ rest) ≡ Ok (x, rest)
 count-back n most x rest small within = then-is (λ p. cond (leb (p .0) most) (Ok p) (Err Count)) (field-back n x rest small) ∙ rw (le-leb x most within)

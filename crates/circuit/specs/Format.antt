@@ -92,11 +92,11 @@ outputs made xs = andThen (count 2 1024 xs) (λ n. many (λ _. wire made) (n .0)
 abbrev pub ended : {X : Type 0} → X × List ℕ → Result X Refusal
 ended p = cond (eqb (length (p .1)) 0) (Ok (p .0)) (Err Length)
 
-abbrev pub circuitOf : Head → List Gate → List ℕ → Circuit
-circuitOf h gs ws = record { inputs = h .inputs; opener = h .opener; gates = gs; outputs = ws }
+abbrev pub assembled : Head → List Gate → List ℕ → Circuit
+assembled h gs ws = record { inputs = h .inputs; opener = h .opener; gates = gs; outputs = ws }
 
 -- a circuit from its bytes, or the first fault
 abbrev pub parse : List ℕ → Result Circuit Refusal
 parse xs =
     andThen (head xs) (λ h. andThen (gates (h .0 .gates) (h .0 .inputs) (h .1)) (λ g. andThen (outputs (h .0 .inputs + h .0 .gates) (g .1)) (λ o.
-    ended (circuitOf (h .0) (g .0) (o .0), o .1))))
+    ended (assembled (h .0) (g .0) (o .0), o .1))))

@@ -3,13 +3,19 @@ ghost use mathlib.Core.Path.{_≡_};
 ghost use Prim.Native.Nat.{_≤_};
 ghost use Rattle.circuit.specs.Numbers.{bits};
 ghost use Rattle.circuit.specs.Format.{lent, lentRest, kind, count, wire, gate, head, many};
-ghost use Rattle.circuit.specs.Kept.{Kept};
+ghost use Rattle.circuit.specs.Format.{parse, encode};
+ghost use Rattle.circuit.specs.Kept.{Kept, Drafted};
+ghost use Rattle.circuit.specs.Answers.{circuitOf, Answers};
+ghost use Rattle.std.specs.Vec.{made};
 ghost use mathlib.Core.List.{[]};
 use crate::bytes::byte;
 use crate::bytes::half;
 use crate::bytes::word;
 use crate::gates::Gate;
+use crate::refusals::Failure;
+use crate::refusals::FailureFromRefusal;
 use crate::refusals::Refusal;
+use crate::sheets::Sheet;
 use std::alloc::Global;
 
 // The kind that a sheet's text begins with.
@@ -160,4 +166,56 @@ fn wires_in(heap: Global, n: u16, made: u32, text: &[u8]) -> Result<(Vec<u32>, &
         rest = after;
     }
     Ok((wires, rest))
+}
+
+// What was read of a sheet: where memory ran out, some of it is missing.
+#[derive(Drop)]
+struct Draft {
+    head: Head,
+    gates: Vec<Gate>,
+    count: u16,
+    outputs: Vec<u32>,
+}
+
+fn draft_in(heap: Global, text: &[u8]) -> Result<Draft, Refusal>
+    ensures { λ r. ⌜ Drafted r (parse (now (text .entry))) ⌝ }
+{
+    let (head, rest) = head_in(text)?;
+    let inputs = u32::from(head.inputs);
+    let (gates, rest) = gates_in(heap, head.gates, inputs, rest)?;
+    let (count, rest) = count_in(MOST_OUTPUTS, rest)?;
+    let (outputs, rest) = wires_in(heap, count, inputs + head.gates, rest)?;
+    if !rest.is_empty() {
+        return Err(Refusal::Length);
+    }
+    Ok(Draft {
+        head,
+        gates,
+        count,
+        outputs,
+    })
+}
+
+impl Sheet {
+    // A sheet from its bytes, all of them.
+    pub fn read(heap: Global, text: &[u8]) -> Result<Sheet, Failure>
+        ensures parsed { λ r. ⌜ Answers circuitOf r (parse (now (text .entry))) ⌝ }
+        ensures one_text { λ r. ⌜ made r (λ s. encode (circuitOf s) ≡ now (text .entry)) ⌝ }
+    {
+        let Draft {
+            head,
+            gates,
+            count,
+            outputs,
+        } = draft_in(heap, text)?;
+        if gates.len() != head.gates as usize || outputs.len() != count as usize {
+            return Err(Failure::Memory);
+        }
+        Ok(Sheet {
+            inputs: head.inputs,
+            opener: head.opener,
+            gates,
+            outputs,
+        })
+    }
 }
