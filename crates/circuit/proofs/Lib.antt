@@ -4,3 +4,5 @@ mod Many
 mod Accepted
 mod Written
 mod Drafts
+mod Writes
+pub mod Lawful

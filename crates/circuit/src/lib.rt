@@ -4,6 +4,7 @@ mod gates;
 mod reading;
 mod refusals;
 mod sheets;
+mod writing;
 
 pub use gates::Gate;
 pub use refusals::Failure;

@@ -19,7 +19,7 @@ use crate::sheets::Sheet;
 use std::alloc::Global;
 
 // The kind that a sheet's text begins with.
-const SHEET: u8 = 1;
+pub const SHEET: u8 = 1;
 
 const MOST_INPUTS: u16 = 1024;
 

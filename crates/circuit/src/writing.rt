@@ -1,0 +1,79 @@
+// A sheet's bytes.
+ghost use mathlib.Core.Path.{_≡_};
+ghost use mathlib.Core.List.{_++_};
+ghost use Prim.Native.Nat.{_≤_};
+ghost use Rattle.std.specs.Joined.{joined};
+ghost use Rattle.std.specs.Of.Vec.{vec-items};
+ghost use Rattle.std.specs.Vec.{made};
+ghost use Rattle.std.specs.declared.result.Result.the-variants.{Ok};
+ghost use Rattle.circuit.specs.Numbers.{digits, binary};
+ghost use Rattle.circuit.specs.Format.{gateBytes, encode, parse};
+ghost use Rattle.circuit.specs.Answers.{circuitOf};
+use crate::gates::Gate;
+use crate::reading::SHEET;
+use crate::sheets::Sheet;
+use std::alloc::AllocError;
+use std::alloc::Global;
+
+fn put_half(text: &mut Vec<u8>, n: u16) -> Result<(), AllocError>
+    ensures { λ r. ⌜ made r (λ _. vec-items (now (text .exit)) ≡ vec-items (now (text .entry)) ++ digits 256 2 n) ⌝ }
+{
+    text.extend_from_slice(&n.to_be_bytes())
+}
+
+fn put_word(text: &mut Vec<u8>, n: u32) -> Result<(), AllocError>
+    ensures { λ r. ⌜ made r (λ _. vec-items (now (text .exit)) ≡ vec-items (now (text .entry)) ++ digits 256 4 n) ⌝ }
+{
+    text.extend_from_slice(&n.to_be_bytes())
+}
+
+fn put_wires(text: &mut Vec<u8>, wires: &[u32]) -> Result<(), AllocError>
+    ensures { λ r. ⌜ made r (λ _. vec-items (now (text .exit)) ≡ vec-items (now (text .entry)) ++ joined (digits 256 4) (now (wires .entry))) ⌝ }
+{
+    for w in wires {
+        put_word(text, *w)?;
+    }
+    Ok(())
+}
+
+// A truth table as a number, its first entry the highest bit.
+fn byte_of(gives: [bool; 4]) -> u8
+    ensures { λ r. ⌜ r ≡ binary gives ⌝ }
+{
+    8 * u8::from(gives[0]) + 4 * u8::from(gives[1]) + 2 * u8::from(gives[2]) + u8::from(gives[3])
+}
+
+fn put_gate(text: &mut Vec<u8>, gate: Gate) -> Result<(), AllocError>
+    ensures { λ r. ⌜ made r (λ _. vec-items (now (text .exit)) ≡ vec-items (now (text .entry)) ++ gateBytes gate) ⌝ }
+{
+    put_wires(text, &gate.wires)?;
+    text.push(byte_of(gate.gives))?;
+    Ok(())
+}
+
+fn put_gates(text: &mut Vec<u8>, gates: &[Gate]) -> Result<(), AllocError>
+    ensures { λ r. ⌜ made r (λ _. vec-items (now (text .exit)) ≡ vec-items (now (text .entry)) ++ joined gateBytes (now (gates .entry))) ⌝ }
+{
+    for g in gates {
+        put_gate(text, *g)?;
+    }
+    Ok(())
+}
+
+impl Sheet {
+    // The bytes that `read` reads as this sheet.
+    pub fn write(&self, heap: Global) -> Result<Vec<u8>, AllocError>
+        ensures bytes { λ r. ⌜ made r (λ v. vec-items v ≡ encode (circuitOf (now (self .entry)))) ⌝ }
+        ensures read_back { λ r. ⌜ made r (λ v. parse (vec-items v) ≡ Ok (circuitOf (now (self .entry)))) ⌝ }
+    {
+        let mut text = Vec::new(heap);
+        text.push(SHEET)?;
+        put_half(&mut text, self.inputs)?;
+        put_half(&mut text, self.opener)?;
+        put_word(&mut text, self.gates.len() as u32)?;
+        put_gates(&mut text, self.gates.as_slice())?;
+        put_half(&mut text, self.outputs.len() as u16)?;
+        put_wires(&mut text, self.outputs.as_slice())?;
+        Ok(text)
+    }
+}
