@@ -1,5 +1,6 @@
 mod Numbers
 mod AndThen
+pub mod Values
 mod Many
 mod Accepted
 mod Written

@@ -21,6 +21,7 @@ use Rattle.circuit.specs.declared.reading.Head.{Head}
 use Rattle.circuit.specs.declared.refusals.Refusal.{Refusal}
 use Rattle.circuit.specs.declared.refusals.Refusal.the-variants.{Length, Count, NotMade, Gives}
 use Rattle.circuit.proofs.AndThen.{then-is}
+use Rattle.circuit.proofs.Values.{two-of}
 use Rattle.circuit.proofs.Numbers.{one-byte, length-digits, number-digits, bits-binary, binary-lt}
 
 field-back : (n x : ℕ) (rest : List ℕ) → x < 256 ^ n → field n (digits 256 n x ++ rest) ≡ Ok (x, rest)
@@ -34,12 +35,6 @@ count-back n most x rest small within = then-is (λ p. cond (leb (p .0) most) (O
 
 wire-back : (made x : ℕ) (rest : List ℕ) → made ≤ 256 ^ 4 → x < made → wire made (digits 256 4 x ++ rest) ≡ Ok (x, rest)
 wire-back made x rest fits below = then-is (λ p. cond (ltb (p .0) made) (Ok p) (Err NotMade)) (field-back 4 x rest (omega arith)) ∙ rw (lt-ltb x made below)
-
-two-of : (ws : List ℕ) → length ws ≡ 2 → ws ≡ getD ws 0 0 ∷ getD ws 1 0 ∷ []
-two-of [] e = absurd (omega arith)
-two-of (a ∷ []) e = absurd (omega arith)
-two-of (a ∷ b ∷ []) e = refl
-two-of (a ∷ b ∷ c ∷ ws) e = absurd (omega arith)
 
 table-small : (ts : List Bool) → length ts ≡ 4 → binary ts ≤ 15
 table-small ts four = let small : binary ts < 2 ^ 4 = rw four at (binary-lt ts) in omega arith

@@ -3,7 +3,7 @@ use mathlib.Core.Path.{_≡_}
 use mathlib.Core.Bool.{Bool, false}
 use mathlib.Core.List.{List, [], _∷_, _++_, map}
 use Prim.Native.Nat.{ℕ, _+_, _<_, _≤_}
-use lib.ListN.{length, getD}
+use lib.ListN.{length, getD, take}
 use Rattle.circuit.specs.Numbers.{binary}
 use Rattle.circuit.specs.declared.gates.Gate.{Gate}
 
@@ -53,3 +53,9 @@ values (g ∷ gs) vs = values gs (vs ++ (gateValue g vs ∷ []))
 
 abbrev pub result : Circuit → List Bool → List Bool
 result c xs = atAll (values (c .gates) xs) (c .outputs)
+
+-- an assignment of values to all wires that agrees with the inputs and with every gate
+pub record Assignment (c : Circuit) (xs vs : List Bool) : Type 0 where
+  pub all : length vs ≡ wireCount c
+  pub inputs : take (c .inputs) vs ≡ xs
+  pub gates : (k : ℕ) → k < length (c .gates) → at vs (c .inputs + k) ≡ gateValue (getD (c .gates) k noGate) vs

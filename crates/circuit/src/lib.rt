@@ -3,6 +3,7 @@ mod bytes;
 mod gates;
 mod reading;
 mod refusals;
+mod running;
 mod sheets;
 mod writing;
 
