@@ -7,3 +7,4 @@ mod Written
 mod Drafts
 mod Writes
 pub mod Lawful
+mod Texts

@@ -13,6 +13,13 @@ use Rattle.circuit.specs.Format.{Part, many}
 use Rattle.circuit.specs.Kept.{Holds}
 use Rattle.circuit.specs.declared.refusals.Refusal.{Refusal}
 
+-- one item more, if it found memory
+pub kept-push : {X Z : Type 0} (b : Bool) (i : ℕ) (v w : Vec X Z) (acc : List X) (x : X) → vec-len v ≤ i → Holds i v acc →
+    vec-items w ≡ cond b (vec-items v ++ (x ∷ [])) (vec-items v) → vec-len w ≡ cond b (vec-len v + 1) (vec-len v) →
+    (vec-len w ≤ i + 1) × Holds (i + 1) w (acc ++ (x ∷ []))
+kept-push true i v w acc x few holds items len = (omega arith, λ e. let h : vec-len v ≡ i = omega arith in items ∙ rw (holds h))
+kept-push false i v w acc x few holds items len = (omega arith, λ e. absurd (let z : _≡_ {A = ℕ} 0 1 = omega arith in omega arith))
+
 module _ {X Z : Type 0} (one : ℕ → List ℕ → Part X) where
   -- after i of n parts: what is left gives what the whole gives, and the vector has the items so far, or too few
   abbrev pub Going : ℕ → ℕ → List ℕ → ℕ → Vec X Z → List ℕ → Type 0
@@ -26,12 +33,6 @@ module _ {X Z : Type 0} (one : ℕ → List ℕ → Part X) where
 
       add-zero-is : (m : ℕ) → m + 0 ≡ m
       add-zero-is m = omega arith
-
-  kept-push : (b : Bool) (i : ℕ) (v w : Vec X Z) (acc : List X) (x : X) → vec-len v ≤ i → Holds i v acc →
-      vec-items w ≡ cond b (vec-items v ++ (x ∷ [])) (vec-items v) → vec-len w ≡ cond b (vec-len v + 1) (vec-len v) →
-      (vec-len w ≤ i + 1) × Holds (i + 1) w (acc ++ (x ∷ []))
-  kept-push true i v w acc x few holds items len = (omega arith, λ e. let h : vec-len v ≡ i = omega arith in items ∙ rw (holds h))
-  kept-push false i v w acc x few holds items len = (omega arith, λ e. absurd (let z : _≡_ {A = ℕ} 0 1 = omega arith in omega arith))
 
   pub going-more : {ys : List ℕ} {x : X} (n k : ℕ) (text : List ℕ) (i : ℕ) (v w : Vec X Z) (rest : List ℕ) (b : Bool) → i < n →
       Going n k text i v rest → Ok (x, ys) ≡ one (k + i) rest →

@@ -101,3 +101,7 @@ four-binary (a ∷ b ∷ c ∷ d ∷ x ∷ bs) e = absurd (omega arith)
 pub bit-byte : (b : Bool) → boolByte b ≡ bit b
 bit-byte true = refl
 bit-byte false = refl
+
+pub bit-le : (b : Bool) → bit b ≤ 1
+bit-le true = omega arith
+bit-le false = omega arith

@@ -5,3 +5,4 @@ pub mod Format
 pub mod Kept
 pub mod Laws
 pub mod Answers
+pub mod Bits
