@@ -1,0 +1,3 @@
+mod Colours
+mod Differences
+mod Pairs

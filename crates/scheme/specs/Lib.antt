@@ -1,0 +1,2 @@
+pub mod Coins
+pub mod Outcome

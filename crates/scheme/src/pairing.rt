@@ -1,0 +1,88 @@
+// The pairing of coins.
+ghost use mathlib.Core.Path.{_≡_};
+ghost use mathlib.Core.List.{map};
+ghost use Prim.Native.Nat.{ℕ, _≤_, _<_};
+ghost use lib.ListN.{length};
+ghost use Rattle.std.specs.Iters.{counting};
+ghost use Rattle.std.specs.Of.Vec.{vec-items};
+ghost use Rattle.std.specs.Vec.{made};
+ghost use Rattle.circuit.specs.Answers.{circuitOf, Answers};
+ghost use Rattle.circuit.specs.Circuit.{Below, at, atAll};
+ghost use Rattle.scheme.specs.Coins.{colour, firstDifference};
+ghost use Rattle.scheme.specs.Outcome.{outcome, pairing, Meant};
+use circuit::Failure;
+use circuit::FailureFromAlloc;
+use circuit::Refusal;
+use circuit::Sheet;
+use std::alloc::AllocError;
+use std::alloc::Global;
+
+// How the coins of two inputs are paired.
+#[derive(Drop)]
+pub enum Pairing {
+    // the results are the same: for each wire, the coin that pairs the one given
+    Coins(Vec<bool>),
+    // the first output in which the results differ, from 0
+    Differ(usize),
+}
+
+fn first_difference(before: &[bool], after: &[bool], outputs: &[u32]) -> Option<usize>
+    requires before_within { ⌜ Below (length (now before)) (now outputs) ⌝ }
+    requires after_within { ⌜ Below (length (now after)) (now outputs) ⌝ }
+    ensures { λ r. ⌜ r ≡ firstDifference 0 (atAll (now (before .entry)) (now (outputs .entry))) (atAll (now (after .entry)) (now (outputs .entry))) ⌝ }
+{
+    for i in 0..outputs.len() {
+        let wire = outputs[i] as usize;
+        if before[wire] != after[wire] {
+            return Some(i);
+        }
+    }
+    None
+}
+
+fn paired_coins(
+    heap: Global,
+    coins: &[bool],
+    before: &[bool],
+    after: &[bool],
+) -> Result<Vec<bool>, AllocError>
+    requires before_within { ⌜ length (now coins) ≤ length (now before) ⌝ }
+    requires after_within { ⌜ length (now coins) ≤ length (now after) ⌝ }
+    ensures { λ r. ⌜ made r (λ v. vec-items v ≡ map (λ w. colour (colour (at (now (coins .entry)) w) (at (now (before .entry)) w)) (at (now (after .entry)) w)) (counting 0 (length (now (coins .entry))))) ⌝ }
+{
+    let mut paired = Vec::new(heap);
+    for w in 0..coins.len() {
+        paired.push(coins[w] ^ before[w] ^ after[w])?;
+    }
+    Ok(paired)
+}
+
+// The coins that pair these for the second input as they are for the first, or the first output in which the two differ.
+pub fn pair(
+    heap: Global,
+    sheet: &Sheet,
+    first: &[bool],
+    second: &[bool],
+    coins: &[bool],
+) -> Result<Pairing, Failure>
+    ensures answer { λ r. ⌜ Answers outcome r (pairing (circuitOf (now (sheet .entry))) (now (first .entry)) (now (second .entry)) (now (coins .entry))) ⌝ }
+    ensures meaning { λ r. ⌜ made r (λ p. Meant (circuitOf (now (sheet .entry))) (now (first .entry)) (now (second .entry)) (now (coins .entry)) (outcome p)) ⌝ }
+{
+    let inputs = sheet.inputs as usize;
+    if first.len() != inputs || second.len() != inputs {
+        return Err(Failure::Refused(Refusal::Values));
+    }
+    if coins.len() != inputs + sheet.gates.len() {
+        return Err(Failure::Refused(Refusal::Length));
+    }
+    let before = sheet.values(heap, first)?;
+    let after = sheet.values(heap, second)?;
+    match first_difference(
+        before.as_slice(),
+        after.as_slice(),
+        sheet.outputs.as_slice(),
+    ) {
+        Some(output) => Ok(Pairing::Differ(output)),
+        None => Ok(Pairing::Coins(paired_coins(heap, coins, before.as_slice(), after.as_slice())?)),
+    }
+}
