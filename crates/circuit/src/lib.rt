@@ -16,4 +16,5 @@ pub use refusals::Failure;
 pub use refusals::FailureFromAlloc;
 pub use refusals::FailureFromRefusal;
 pub use refusals::Refusal;
+pub use refusals::RefusalDisplay;
 pub use sheets::Sheet;

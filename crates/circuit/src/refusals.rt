@@ -3,6 +3,7 @@ ghost use mathlib.Core.Path.{_≡_};
 ghost use Rattle.circuit.specs.Refusals.{numberOf};
 ghost use Rattle.circuit.specs.declared.refusals.Failure.the-variants.{Memory, Refused};
 use std::alloc::AllocError;
+use std::fmt;
 
 // What is wrong with an input.
 #[derive(Clone, Copy, PartialEq, Eq, Debug)]
@@ -31,6 +32,21 @@ impl Refusal {
             Refusal::Gives => 4,
             Refusal::Values => 7,
         }
+    }
+}
+
+// A refusal's number, and its cause in words.
+pub impl fmt::Display for Refusal as RefusalDisplay {
+    fn fmt<W: fmt::Write>(&self, f: &mut fmt::Formatter<W>) -> fmt::Result {
+        let number = self.number();
+        let cause = match self {
+            Refusal::Length => "an unknown kind, or other than as many bytes as there should be",
+            Refusal::Count => "a count out of its range",
+            Refusal::NotMade => "a wire that is not made yet",
+            Refusal::Gives => "a gate's byte above 15",
+            Refusal::Values => "other than as many keys or values as inputs",
+        };
+        write!(f, "{number} ({cause})")
     }
 }
 
