@@ -13,6 +13,7 @@ pub use bits::read_line;
 pub use bits::read_values;
 pub use gates::Gate;
 pub use refusals::Failure;
+pub use refusals::FailureDebug;
 pub use refusals::FailureFromAlloc;
 pub use refusals::FailureFromRefusal;
 pub use refusals::Refusal;
