@@ -130,31 +130,27 @@ fn bits_or_number(
 fn values(rt: LibcRuntime) -> Result<(), Fail> {
     let heap = rt.alloc();
     bits_or_number(
-        circuit::read_values(heap, 3, b"\x01\0\x01"),
+        bits::read_values(heap, 3, b"\x01\0\x01"),
         &[true, false, true],
         0,
     )?;
-    bits_or_number(circuit::read_values(heap, 0, b""), &[], 0)?;
-    bits_or_number(circuit::read_values(heap, 2, b"\x01\0\x01"), &[], 7)?;
-    bits_or_number(circuit::read_values(heap, 3, b"\x01\0"), &[], 7)?;
-    bits_or_number(circuit::read_values(heap, 2, b"\x01\x02"), &[], 7)?;
-    bits_or_number(circuit::read_values(heap, 1, b"1"), &[], 7)
+    bits_or_number(bits::read_values(heap, 0, b""), &[], 0)?;
+    bits_or_number(bits::read_values(heap, 2, b"\x01\0\x01"), &[], 7)?;
+    bits_or_number(bits::read_values(heap, 3, b"\x01\0"), &[], 7)?;
+    bits_or_number(bits::read_values(heap, 2, b"\x01\x02"), &[], 7)?;
+    bits_or_number(bits::read_values(heap, 1, b"1"), &[], 7)
 }
 
 #[test]
 fn lines(rt: LibcRuntime) -> Result<(), Fail> {
     let heap = rt.alloc();
-    bits_or_number(circuit::read_line(heap, 3, b"101"), &[true, false, true], 0)?;
-    bits_or_number(
-        circuit::read_line(heap, 3, b"101\n"),
-        &[true, false, true],
-        0,
-    )?;
-    bits_or_number(circuit::read_line(heap, 0, b"\n"), &[], 0)?;
-    bits_or_number(circuit::read_line(heap, 3, b"10"), &[], 1)?;
-    bits_or_number(circuit::read_line(heap, 3, b"101\n\n"), &[], 1)?;
-    bits_or_number(circuit::read_line(heap, 3, b"10 "), &[], 1)?;
-    bits_or_number(circuit::read_line(heap, 3, b"102"), &[], 1)?;
-    bits_or_number(circuit::read_line(heap, 3, b"\x01\0\x01"), &[], 1)?;
-    check(circuit::line_of(heap, &[true, false, true])?.as_str() == "101")
+    bits_or_number(bits::read_line(heap, 3, b"101"), &[true, false, true], 0)?;
+    bits_or_number(bits::read_line(heap, 3, b"101\n"), &[true, false, true], 0)?;
+    bits_or_number(bits::read_line(heap, 0, b"\n"), &[], 0)?;
+    bits_or_number(bits::read_line(heap, 3, b"10"), &[], 1)?;
+    bits_or_number(bits::read_line(heap, 3, b"101\n\n"), &[], 1)?;
+    bits_or_number(bits::read_line(heap, 3, b"10 "), &[], 1)?;
+    bits_or_number(bits::read_line(heap, 3, b"102"), &[], 1)?;
+    bits_or_number(bits::read_line(heap, 3, b"\x01\0\x01"), &[], 1)?;
+    check(bits::line_of(heap, &[true, false, true])?.as_str() == "101")
 }

@@ -19,8 +19,8 @@ use Rattle.std.proofs.shelf.Lists.{take-append-drop, length-take-le, append-nil
 use Rattle.std.proofs.shelf.Tests.{leb-true, ltb-true, eqb-true, and-parts}
 use Rattle.circuit.specs.Numbers.{digits, bits, binary, front}
 use Rattle.circuit.specs.Circuit.{Circuit, GoodGate, GoodGates, Below, WellFormed, noGate}
-use Rattle.circuit.specs.Format.{Part, andThen, field, count, wire, gate, gateOf, checked, gateBytes, many, kind, head, gates, outputs, assembled, ended, encode, parse}
-use Rattle.circuit.specs.Laws.{Accepted}
+use Rattle.circuit.specs.Format.{Part, field, count, wire, gate, gateOf, checked, gateBytes, many, kind, head, gates, outputs, assembled, ended, encode, parse}
+use Rattle.circuit.specs.Refusals.{Answer, numberOf, refuse, _>>=_}
 use Rattle.circuit.specs.declared.gates.Gate.{Gate}
 use Rattle.circuit.specs.declared.reading.Head.{Head}
 use Rattle.circuit.specs.declared.refusals.Refusal.{Refusal}
@@ -38,7 +38,7 @@ From write text p = (text ≡ write (p .0) ++ p .1) × Under 256 (p .1)
 field-from : (n : ℕ) (text : List ℕ) (p : ℕ × List ℕ) → Under 256 text → field n text ≡ Ok p → From (digits 256 n) text p
 field-from n text p under e = go (leb n (length text)) refl e
   where
-    go : (b : Bool) → leb n (length text) ≡ b → okOr (cond b (Some (number 256 (take n text), drop n text)) None) Length ≡ Ok p → From (digits 256 n) text p
+    go : (b : Bool) → leb n (length text) ≡ b → okOr (cond b (Some (number 256 (take n text), drop n text)) None) (numberOf Length) ≡ Ok p → From (digits 256 n) text p
     go true long e =
         let value : p .0 ≡ number 256 (take n text) = cc in
         let rest : p .1 ≡ drop n text = cc in
@@ -52,21 +52,21 @@ field-from n text p under e = go (leb n (length text)) refl e
 count-from : (n most : ℕ) (text : List ℕ) (p : ℕ × List ℕ) → Under 256 text → count n most text ≡ Ok p → From (digits 256 n) text p × (p .0 ≤ most)
 count-from n most text p under e =
     then-ok (field n text) _ e (λ q came e.
-    let t = cond-ok (leb (q .0) most) (Ok q) Count e in
+    let t = cond-ok (leb (q .0) most) (Ok q) (numberOf Count) e in
     let same : q ≡ p = cc (t .1) in
     rw (← same) (field-from n text q under came, leb-true (q .0) most (t .0)))
 
 wire-from : (made : ℕ) (text : List ℕ) (p : ℕ × List ℕ) → Under 256 text → wire made text ≡ Ok p → From (digits 256 4) text p × (p .0 < made)
 wire-from made text p under e =
     then-ok (field 4 text) _ e (λ q came e.
-    let t = cond-ok (ltb (q .0) made) (Ok q) NotMade e in
+    let t = cond-ok (ltb (q .0) made) (Ok q) (numberOf NotMade) e in
     let same : q ≡ p = cc (t .1) in
     rw (← same) (field-from 4 text q under came, ltb-true (q .0) made (t .0)))
 
 kind-from : (k : ℕ) (text rest : List ℕ) → Under 256 text → k < 256 → kind k text ≡ Ok rest → (text ≡ k ∷ rest) × Under 256 rest
 kind-from k text rest under small e =
     then-ok (field 1 text) _ e (λ q came e.
-    let t = cond-ok (eqb (q .0) k) (Ok (q .1)) Length e in
+    let t = cond-ok (eqb (q .0) k) (Ok (q .1)) (numberOf Length) e in
     let same : q .1 ≡ rest = cc (t .1) in
     let is : q .0 ≡ k = eqb-true (q .0) k (t .0) in
     let from = field-from 1 text q under came in
@@ -75,8 +75,8 @@ kind-from k text rest under small e =
 checked-from : (made left right gives : ℕ) (text rest : List ℕ) (p : Gate × List ℕ) → text ≡ digits 256 4 left ++ (digits 256 4 right ++ (digits 256 1 gives ++ rest)) →
     Under 256 rest → checked made left right gives rest ≡ Ok p → From gateBytes text p × GoodGate made (p .0)
 checked-from made left right gives text rest p is bytes e =
-    let a = cond-ok {y = p} (ltb left made && ltb right made) (cond (leb gives 15) (Ok (gateOf left right gives, rest)) (Err Gives)) NotMade e in
-    let b = cond-ok {y = p} (leb gives 15) (Ok (gateOf left right gives, rest)) Gives (a .1) in
+    let a = cond-ok {y = p} (ltb left made && ltb right made) (cond (leb gives 15) (Ok (gateOf left right gives, rest)) (refuse Gives)) (numberOf NotMade) e in
+    let b = cond-ok {y = p} (leb gives 15) (Ok (gateOf left right gives, rest)) (numberOf Gives) (a .1) in
     let both = and-parts (ltb left made) (ltb right made) (a .0) in
     let small : gives ≤ 15 = leb-true gives 15 (b .0) in
     let same : p ≡ (gateOf left right gives, rest) = cc (b .1) in
@@ -172,7 +172,7 @@ whole h gs ws n text a b d r head-is few within most-gates most-outputs gates-ar
       rw (g, w) (sym (head-is ∙ rw (gates-are .1 .0, count-is, outputs-are .1 .0, nil-from-length r end) (simp append-nil))),
     )
 
-pub accepted : Accepted
+pub accepted : (text : List ℕ) (c : Circuit) → Under 256 text → parse text ≡ Ok c → WellFormed c × (encode c ≡ text)
 unfolding Items
 accepted text c under e =
     then-ok (head text) _ e (λ h came-h e.
@@ -184,7 +184,7 @@ accepted text c under e =
     let g-from = many-from gate gateBytes GoodGate gate-from (h .0 .gates) (h .0 .inputs) [] (h .1) g (h-from .1) came-g in
     let n-from = count-from 2 1024 (g .1) n (g-from .2 .1 .1) came-n in
     let w-from = many-from (λ _. wire made) (digits 256 4) (λ _ w. w < made) (λ _. wire-from made) (n .0) 0 [] (n .1) o (n-from .0 .1) came-w in
-    let t = cond-ok {y = c} (eqb (length (o .1)) 0) (Ok (assembled (h .0) (g .0) (o .0))) Length e in
+    let t = cond-ok {y = c} (eqb (length (o .1)) 0) (Ok (assembled (h .0) (g .0) (o .0))) (numberOf Length) e in
     let same : c ≡ assembled (h .0) (g-from .0) (w-from .0) = cc (t .1, g-from .1, w-from .1) in
     rw same
     (whole (h .0) (g-from .0) (w-from .0) (n .0) text (h .1) (g .1) (n .1) (o .1) (h-from .0) (h-from .2) (h-from .3) (h-from .4) (n-from .1) (g-from .2) (n-from .0 .0)

@@ -12,11 +12,11 @@ use Rattle.std.specs.declared.vec.Vec.{Vec}
 use Rattle.std.specs.Of.Vec.{vec-items, vec-len}
 use Rattle.std.specs.declared.result.Result.the-variants.{Ok, Err}
 use Rattle.circuit.specs.Circuit.{WellFormed}
-use Rattle.circuit.specs.Format.{andThen, head, gate, count, many, wire, assembled, ended, encode, parse}
+use Rattle.circuit.specs.Format.{head, gate, count, many, wire, assembled, ended, encode, parse}
 use Rattle.circuit.specs.Kept.{Holds}
+use Rattle.circuit.specs.Refusals.{refuse, _>>=_}
 use Rattle.circuit.specs.declared.gates.Gate.{Gate}
 use Rattle.circuit.specs.declared.reading.Head.{Head}
-use Rattle.circuit.specs.declared.refusals.Refusal.{Refusal}
 use Rattle.circuit.specs.declared.refusals.Refusal.the-variants.{Length}
 use Rattle.circuit.proofs.AndThen.{then-is, then-err}
 use Rattle.circuit.proofs.Accepted.{accepted}
@@ -24,13 +24,13 @@ use Rattle.circuit.proofs.Accepted.{accepted}
 module _ {h : Head} {a b d : List ℕ} {gs : List Gate} {n inputs : ℕ} (text : List ℕ) (first : Ok (h, a) ≡ head text) (as-many : inputs ≡ h .inputs)
     (second : many gate (h .gates) inputs [] a ≡ Ok (gs, b)) (third : Ok (n, d) ≡ count 2 1024 b) where
   -- what is left is the outputs and the end
-  last : parse text ≡ andThen (many (λ _. wire (inputs + h .gates)) n 0 [] d) (λ o. ended (assembled h gs (o .0), o .1))
+  last : parse text ≡ (many (λ _. wire (inputs + h .gates)) n 0 [] d >>= λ o. ended (assembled h gs (o .0), o .1))
   last = then-is _ (sym first) ∙ then-is _ (rw as-many at second) ∙ rw (← third, as-many)
 
-  pub outputs-fault : {e : Refusal} → many (λ _. wire (inputs + h .gates)) n 0 [] d ≡ Err e → parse text ≡ Err e
+  pub outputs-fault : {e : ℕ} → many (λ _. wire (inputs + h .gates)) n 0 [] d ≡ Err e → parse text ≡ Err e
   outputs-fault fault = last ∙ then-err _ fault
 
-  pub left-over : {ws : List ℕ} (rest : List ℕ) → many (λ _. wire (inputs + h .gates)) n 0 [] d ≡ Ok (ws, rest) → false ≡ eqb (length rest) 0 → parse text ≡ Err Length
+  pub left-over : {ws : List ℕ} (rest : List ℕ) → many (λ _. wire (inputs + h .gates)) n 0 [] d ≡ Ok (ws, rest) → false ≡ eqb (length rest) 0 → parse text ≡ refuse Length
   left-over rest outputs more = last ∙ then-is _ outputs ∙ rw (← more)
 
   pub all-read : {ws : List ℕ} (rest : List ℕ) → many (λ _. wire (inputs + h .gates)) n 0 [] d ≡ Ok (ws, rest) → true ≡ eqb (length rest) 0 → parse text ≡ Ok (assembled h gs ws)

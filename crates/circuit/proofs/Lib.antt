@@ -1,10 +1,9 @@
 mod Numbers
 mod AndThen
 pub mod Values
-mod Many
+pub mod Many
 mod Accepted
 mod Written
 mod Drafts
 mod Writes
 pub mod Lawful
-mod Texts

@@ -44,7 +44,7 @@ module _ {X Z : Type 0} (one : ℕ → List ℕ → Part X) where
       let push = kept-push b i v w (going .0) x (going .2) (going .3) items len in
       (going .0 ++ (x ∷ []), rw next (rw (left, ← e) at (going .1)), push .0, push .1)
 
-  pub going-fault : {e : Refusal} (n k : ℕ) (text : List ℕ) (i : ℕ) (v : Vec X Z) (rest : List ℕ) → i < n →
+  pub going-fault : {e : ℕ} (n k : ℕ) (text : List ℕ) (i : ℕ) (v : Vec X Z) (rest : List ℕ) → i < n →
       Going n k text i v rest → Err e ≡ one (k + i) rest → many one n k [] text ≡ Err e
   unfolding many
   going-fault n k text i v rest below going e =

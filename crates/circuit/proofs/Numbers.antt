@@ -7,7 +7,6 @@ use native.Mathlib.Nat.{pow-zero, pow-suc}
 use native.Mathlib.Numerals.{add-one}
 use native.Mathlib.Omega.{arith}
 use lib.Dec.{eqb}
-use mir.Val.{boolByte}
 use lib.ListN.{length, getD, take}
 use Rattle.std.specs.shelf.Digits.{number, Under}
 use Rattle.std.proofs.shelf.Bits.{mod-below, shr-shr, div-add-mod', div-below, div-mul-add, mod-mul-add}
@@ -89,19 +88,3 @@ binary-lt bs = rw (← length-map bs bit) (number-lt 2 (map bit bs) (under-bits 
 
 pub length-bits : (n x : ℕ) → length (bits n x) ≡ n
 length-bits n x = length-map (digits 2 n x) (λ d. eqb d 1) ∙ length-digits 2 n x
-
-pub four-binary : (bs : List Bool) → length bs ≡ 4 → binary bs ≡ 8 * bit (getD bs 0 false) + 4 * bit (getD bs 1 false) + 2 * bit (getD bs 2 false) + bit (getD bs 3 false)
-four-binary [] e = absurd (omega arith)
-four-binary (a ∷ []) e = absurd (omega arith)
-four-binary (a ∷ b ∷ []) e = absurd (omega arith)
-four-binary (a ∷ b ∷ c ∷ []) e = absurd (omega arith)
-four-binary (a ∷ b ∷ c ∷ d ∷ []) e = omega arith
-four-binary (a ∷ b ∷ c ∷ d ∷ x ∷ bs) e = absurd (omega arith)
-
-pub bit-byte : (b : Bool) → boolByte b ≡ bit b
-bit-byte true = refl
-bit-byte false = refl
-
-pub bit-le : (b : Bool) → bit b ≤ 1
-bit-le true = omega arith
-bit-le false = omega arith

@@ -4,23 +4,25 @@ use mathlib.Core.Bool.{Bool, false}
 use mathlib.Core.List.{List, [], _∷_, _++_, append-assoc}
 use Prim.Native.Nat.{ℕ, zero, suc, _+_, _<_, _≤_}
 use native.Mathlib.Omega.{arith}
-use lib.Dec.{eqb}
 use lib.ListN.{length, getD, take, drop}
-use Rattle.std.specs.declared.result.Result.the-variants.{Ok}
-use Rattle.std.proofs.shelf.Tests.{eqb-true}
 use Rattle.std.proofs.shelf.Lists.{append-nil, drop-more, drop-all, getD-append-left, getD-at, length-append, length-push, take-all, take-append-drop, take-at, take-more}
-use Rattle.circuit.specs.Circuit.{Circuit, GoodGate, GoodGates, WellFormed, at, atAll, gateValue, values, noGate, Assignment}
+use Rattle.circuit.specs.Circuit.{Circuit, GoodGate, GoodGates, WellFormed, at, atAll, gateValue, values, noGate, Assignment, OneAssignment}
 use Rattle.circuit.specs.Numbers.{binary}
-use Rattle.circuit.specs.Answers.{valuesFor, resultFor}
 use Rattle.circuit.specs.declared.gates.Gate.{Gate}
-use Rattle.circuit.specs.declared.refusals.Refusal.the-variants.{Values}
-use Rattle.circuit.proofs.AndThen.{cond-ok}
 
 pub two-of : (ws : List ℕ) → length ws ≡ 2 → ws ≡ getD ws 0 0 ∷ getD ws 1 0 ∷ []
 two-of [] e = absurd (omega arith)
 two-of (a ∷ []) e = absurd (omega arith)
 two-of (a ∷ b ∷ []) e = refl
 two-of (a ∷ b ∷ c ∷ ws) e = absurd (omega arith)
+
+pub four-of : (bs : List Bool) → length bs ≡ 4 → bs ≡ getD bs 0 false ∷ getD bs 1 false ∷ getD bs 2 false ∷ getD bs 3 false ∷ []
+four-of [] e = absurd (omega arith)
+four-of (a ∷ []) e = absurd (omega arith)
+four-of (a ∷ b ∷ []) e = absurd (omega arith)
+four-of (a ∷ b ∷ c ∷ []) e = absurd (omega arith)
+four-of (a ∷ b ∷ c ∷ d ∷ []) e = refl
+four-of (a ∷ b ∷ c ∷ d ∷ x ∷ bs) e = absurd (omega arith)
 
 pub values-more : {whole more : List Bool} (gs : List Gate) (vs : List Bool) (i : ℕ) → i < length gs → values (drop i gs) vs ≡ whole →
     more ≡ vs ++ (gateValue (getD gs i noGate) vs ∷ []) → values (drop (i + 1) gs) more ≡ whole
@@ -96,17 +98,9 @@ assigned c xs good len =
       gates = λ k below. rw (← len) (gate-agrees (c .gates) xs (rw len (good .4)) k below);
     }
 
-pub one-assignment : (c : Circuit) (xs vs : List Bool) → WellFormed c → length xs ≡ c .inputs → Assignment c xs vs → vs ≡ values (c .gates) xs
-one-assignment c xs vs good len is =
+only-assignment : (c : Circuit) (xs vs : List Bool) → WellFormed c → length xs ≡ c .inputs → Assignment c xs vs → vs ≡ values (c .gates) xs
+only-assignment c xs vs good len is =
     only-values (c .gates) xs vs (rw len (good .4)) (rw len (is .all)) (rw len (is .inputs)) (λ k below. rw len (is .gates k below))
 
--- the result, from the values of all wires
-pub outputs-of : (c : Circuit) (xs known out : List Bool) → WellFormed c → valuesFor c xs ≡ Ok known → out ≡ atAll known (c .outputs) →
-    (resultFor c xs ≡ Ok out) × ((vs : List Bool) → Assignment c xs vs → out ≡ atAll vs (c .outputs))
-outputs-of c xs known out good is found =
-    let t = cond-ok {y = known} (eqb (length xs) (c .inputs)) (Ok (values (c .gates) xs)) Values is in
-    let as-many : length xs ≡ c .inputs = eqb-true (length xs) (c .inputs) (t .0) in
-    let same : known ≡ values (c .gates) xs = cc (t .1) in (
-      rw (t .0) (ap Ok (sym (found ∙ ap (λ vs. atAll vs (c .outputs)) same))),
-      λ vs fits. found ∙ ap (λ us. atAll us (c .outputs)) (same ∙ sym (one-assignment c xs vs good as-many fits)),
-    )
+pub one-assignment : (c : Circuit) (xs : List Bool) → WellFormed c → length xs ≡ c .inputs → OneAssignment c xs (values (c .gates) xs)
+one-assignment c xs good len = record { agrees = assigned c xs good len; alone = λ us. only-assignment c xs us good len }

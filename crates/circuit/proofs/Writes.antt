@@ -23,7 +23,7 @@ pub extended : {T E : Type 0} {now : List ℕ} (r : Result T E) (was ys zs : Lis
 extended (Ok x) was ys zs e same = rw (← same) e
 extended (Err x) was ys zs e same = tt
 
--- seven pieces, one after the other
-pub seven : {A : Type 0} (first a b d e f g : List A) {t₁ t₂ t₃ t₄ t₅ t₆ t₇ : List A} → t₁ ≡ first → t₂ ≡ t₁ ++ a → t₃ ≡ t₂ ++ b → t₄ ≡ t₃ ++ d → t₅ ≡ t₄ ++ e → t₆ ≡ t₅ ++ f → t₇ ≡ t₆ ++ g →
-    t₇ ≡ first ++ (a ++ (b ++ (d ++ (e ++ (f ++ g)))))
-seven first a b d e f g p₁ p₂ p₃ p₄ p₅ p₆ p₇ = p₇ ∙ rw (p₆, p₅, p₄, p₃, p₂, p₁) (simp append-assoc)
+-- six pieces, one after the other
+pub six : {A : Type 0} (first a b d e f g : List A) {t₁ t₂ t₃ t₄ t₅ t₆ : List A} → t₁ ≡ first ++ a → t₂ ≡ t₁ ++ b → t₃ ≡ t₂ ++ d → t₄ ≡ t₃ ++ e → t₅ ≡ t₄ ++ f → t₆ ≡ t₅ ++ g →
+    t₆ ≡ first ++ (a ++ (b ++ (d ++ (e ++ (f ++ g)))))
+six first a b d e f g p₁ p₂ p₃ p₄ p₅ p₆ = p₆ ∙ rw (p₅, p₄, p₃, p₂, p₁) (simp append-assoc)

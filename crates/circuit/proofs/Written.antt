@@ -13,9 +13,9 @@ use Rattle.std.specs.declared.result.Result.the-variants.{Ok, Err}
 use Rattle.std.proofs.shelf.Lists.{take-at, drop-at, append-nil, length-append}
 use Rattle.std.proofs.shelf.Tests.{le-leb, lt-ltb, eq-eqb, and-from, cond-true}
 use Rattle.circuit.specs.Numbers.{digits, bits, binary, front}
-use Rattle.circuit.specs.Circuit.{Circuit, GoodGate, noGate}
-use Rattle.circuit.specs.Format.{Part, andThen, field, count, wire, gate, gateOf, checked, gateBytes, many, kind, head, gates, outputs, assembled, ended, encode, parse}
-use Rattle.circuit.specs.Laws.{ReadBack}
+use Rattle.circuit.specs.Circuit.{Circuit, GoodGate, WellFormed, noGate}
+use Rattle.circuit.specs.Format.{Part, field, count, wire, gate, gateOf, checked, gateBytes, many, kind, head, gates, outputs, assembled, ended, encode, parse}
+use Rattle.circuit.specs.Refusals.{refuse, _>>=_}
 use Rattle.circuit.specs.declared.gates.Gate.{Gate}
 use Rattle.circuit.specs.declared.reading.Head.{Head}
 use Rattle.circuit.specs.declared.refusals.Refusal.{Refusal}
@@ -31,10 +31,10 @@ field-back n x rest small =
     rw (le-leb n (length (digits 256 n x ++ rest)) long, take-at (digits 256 n x) rest n len, drop-at (digits 256 n x) rest n len, number-digits 256 n x (omega arith) small)
 
 count-back : (n most x : ℕ) (rest : List ℕ) → x < 256 ^ n → x ≤ most → count n most (digits 256 n x ++ rest) ≡ Ok (x, rest)
-count-back n most x rest small within = then-is (λ p. cond (leb (p .0) most) (Ok p) (Err Count)) (field-back n x rest small) ∙ rw (le-leb x most within)
+count-back n most x rest small within = then-is (λ p. cond (leb (p .0) most) (Ok p) (refuse Count)) (field-back n x rest small) ∙ rw (le-leb x most within)
 
 wire-back : (made x : ℕ) (rest : List ℕ) → made ≤ 256 ^ 4 → x < made → wire made (digits 256 4 x ++ rest) ≡ Ok (x, rest)
-wire-back made x rest fits below = then-is (λ p. cond (ltb (p .0) made) (Ok p) (Err NotMade)) (field-back 4 x rest (omega arith)) ∙ rw (lt-ltb x made below)
+wire-back made x rest fits below = then-is (λ p. cond (ltb (p .0) made) (Ok p) (refuse NotMade)) (field-back 4 x rest (omega arith)) ∙ rw (lt-ltb x made below)
 
 table-small : (ts : List Bool) → length ts ≡ 4 → binary ts ≤ 15
 table-small ts four = let small : binary ts < 2 ^ 4 = rw four at (binary-lt ts) in omega arith
@@ -81,7 +81,7 @@ head-back h rest few within most =
     ∙ then-is _ (count-back 2 (h .inputs) (h .opener) (digits 256 4 (h .gates) ++ rest) (omega arith) within)
     ∙ then-is _ (count-back 4 65536 (h .gates) rest (omega arith) most)
 
-pub read-back : ReadBack
+pub read-back : (c : Circuit) → WellFormed c → parse (encode c) ≡ Ok c
 read-back c good =
     let h : Head = record { inputs = c .inputs; opener = c .opener; gates = length (c .gates) } in
     let made = c .inputs + length (c .gates) in

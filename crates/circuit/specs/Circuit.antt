@@ -30,9 +30,18 @@ noGate = record { wires = []; gives = [] }
 abbrev pub GoodGates : ℕ → List Gate → Type 0
 GoodGates made gs = (k : ℕ) → k < length gs → GoodGate (made + k) (getD gs k noGate)
 
+abbrev pub mostInputs : ℕ
+mostInputs = 1024
+
+abbrev pub mostGates : ℕ
+mostGates = 65536
+
+abbrev pub mostOutputs : ℕ
+mostOutputs = 1024
+
 abbrev pub WellFormed : Circuit → Type 0
 WellFormed c =
-    (c .inputs ≤ 1024) × (c .opener ≤ c .inputs) × (length (c .gates) ≤ 65536) × (length (c .outputs) ≤ 1024)
+    (c .inputs ≤ mostInputs) × (c .opener ≤ c .inputs) × (length (c .gates) ≤ mostGates) × (length (c .outputs) ≤ mostOutputs)
     × GoodGates (c .inputs) (c .gates) × Below (wireCount c) (c .outputs)
 
 abbrev pub at : List Bool → ℕ → Bool
@@ -54,8 +63,13 @@ values (g ∷ gs) vs = values gs (vs ++ (gateValue g vs ∷ []))
 abbrev pub result : Circuit → List Bool → List Bool
 result c xs = atAll (values (c .gates) xs) (c .outputs)
 
--- an assignment of values to all wires that agrees with the inputs and with every gate
+-- values of all wires that agree with the inputs and with every gate
 pub record Assignment (c : Circuit) (xs vs : List Bool) : Type 0 where
   pub all : length vs ≡ wireCount c
   pub inputs : take (c .inputs) vs ≡ xs
   pub gates : (k : ℕ) → k < length (c .gates) → at vs (c .inputs + k) ≡ gateValue (getD (c .gates) k noGate) vs
+
+-- and there are no others
+pub record OneAssignment (c : Circuit) (xs vs : List Bool) : Type 0 where
+  pub agrees : Assignment c xs vs
+  pub alone : (us : List Bool) → Assignment c xs us → us ≡ vs

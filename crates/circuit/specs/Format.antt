@@ -1,18 +1,17 @@
 -- A sheet's bytes: what writes them, and what is read from any bytes, refusals included. Assumes nothing.
-use mathlib.Core.Path.{_≡_}
-use mathlib.Core.Bool.{Bool, true, false, cond, _&&_}
-use mathlib.Core.List.{List, [], _∷_, _++_, map}
-use Prim.Native.Nat.{ℕ, zero, suc, _+_, _/_, _%_}
+use mathlib.Core.Bool.{cond, _&&_}
+use mathlib.Core.List.{List, [], _∷_, _++_}
+use Prim.Native.Nat.{ℕ, zero, suc, _+_}
 use lib.Dec.{eqb, ltb, leb}
-use lib.ListN.{length, getD, take, drop}
+use lib.ListN.{length}
 use denote.Ref.{RefT}
-use Rattle.std.specs.shelf.Digits.{number}
 use Rattle.std.specs.Joined.{joined}
 use Rattle.std.specs.Options.{okOr}
 use Rattle.std.specs.declared.result.Result.{Result}
 use Rattle.std.specs.declared.result.Result.the-variants.{Ok, Err}
+use Rattle.circuit.specs.Circuit.{Circuit, mostInputs, mostGates, mostOutputs}
 use Rattle.circuit.specs.Numbers.{digits, binary, bits, front}
-use Rattle.circuit.specs.Circuit.{Circuit, wireCount}
+use Rattle.circuit.specs.Refusals.{Answer, numberOf, refuse, _>>=_}
 use Rattle.circuit.specs.declared.gates.Gate.{Gate}
 use Rattle.circuit.specs.declared.reading.Head.{Head}
 use Rattle.circuit.specs.declared.refusals.Refusal.{Refusal}
@@ -22,39 +21,39 @@ use Rattle.circuit.specs.declared.refusals.Refusal.the-variants.{Length, Count
 abbrev pub gateBytes : Gate → List ℕ
 gateBytes g = joined (digits 256 4) (g .wires) ++ (binary (g .gives) ∷ [])
 
+-- what follows the kind
+abbrev pub body : Circuit → List ℕ
+body c =
+    digits 256 2 (c .inputs) ++ (digits 256 2 (c .opener) ++ (digits 256 4 (length (c .gates)) ++ (joined gateBytes (c .gates)
+    ++ (digits 256 2 (length (c .outputs)) ++ joined (digits 256 4) (c .outputs)))))
+
 abbrev pub encode : Circuit → List ℕ
-encode c =
-    1 ∷ (digits 256 2 (c .inputs) ++ (digits 256 2 (c .opener) ++ (digits 256 4 (length (c .gates)) ++ (joined gateBytes (c .gates)
-    ++ (digits 256 2 (length (c .outputs)) ++ joined (digits 256 4) (c .outputs))))))
+encode c = 1 ∷ body c
 
 -- Reading: a part is a value and what is left
 abbrev pub Part : Type 0 → Type 0
-Part X = Result (X × List ℕ) Refusal
-
-abbrev pub andThen : {X Y : Type 0} → Result X Refusal → (X → Result Y Refusal) → Result Y Refusal
-andThen (Ok x) f = f x
-andThen (Err e) f = Err e
+Part X = Answer (X × List ℕ)
 
 -- a part whose rest is lent
 abbrev pub lent : {X : Type 0} → Result (X × RefT (List ℕ)) Refusal → Part X
 lent (Ok p) = Ok (p .0, p .1 .now)
-lent (Err e) = Err e
+lent (Err e) = refuse e
 
-abbrev pub lentRest : Result (RefT (List ℕ)) Refusal → Result (List ℕ) Refusal
+abbrev pub lentRest : Result (RefT (List ℕ)) Refusal → Answer (List ℕ)
 lentRest (Ok p) = Ok (p .now)
-lentRest (Err e) = Err e
+lentRest (Err e) = refuse e
 
 -- a number of n bytes
 abbrev pub field : ℕ → List ℕ → Part ℕ
-field n xs = okOr (front n xs) Length
+field n xs = okOr (front n xs) (numberOf Length)
 
 -- a number of n bytes that is in its range
 abbrev pub count : ℕ → ℕ → List ℕ → Part ℕ
-count n most xs = andThen (field n xs) (λ p. cond (leb (p .0) most) (Ok p) (Err Count))
+count n most xs = field n xs >>= λ p. cond (leb (p .0) most) (Ok p) (refuse Count)
 
--- one that names a wire made already
+-- the number of a wire made already
 abbrev pub wire : ℕ → List ℕ → Part ℕ
-wire made xs = andThen (field 4 xs) (λ p. cond (ltb (p .0) made) (Ok p) (Err NotMade))
+wire made xs = field 4 xs >>= λ p. cond (ltb (p .0) made) (Ok p) (refuse NotMade)
 
 -- a gate is read whole, and of its faults the lowest number wins
 abbrev pub gateOf : ℕ → ℕ → ℕ → Gate
@@ -62,41 +61,40 @@ gateOf left right gives = record { wires = left ∷ right ∷ []; gives = bits 4
 
 abbrev pub checked : ℕ → ℕ → ℕ → ℕ → List ℕ → Part Gate
 checked made left right gives rest =
-    cond (ltb left made && ltb right made) (cond (leb gives 15) (Ok (gateOf left right gives, rest)) (Err Gives)) (Err NotMade)
+    cond (ltb left made && ltb right made) (cond (leb gives 15) (Ok (gateOf left right gives, rest)) (refuse Gives)) (refuse NotMade)
 
 abbrev pub gate : ℕ → List ℕ → Part Gate
-gate made xs =
-    andThen (field 4 xs) (λ l. andThen (field 4 (l .1)) (λ r. andThen (field 1 (r .1)) (λ t. checked made (l .0) (r .0) (t .0) (t .1))))
+gate made xs = field 4 xs >>= λ l. field 4 (l .1) >>= λ r. field 1 (r .1) >>= λ t. checked made (l .0) (r .0) (t .0) (t .1)
 
 -- n parts one after the other, the first of them number k; acc has those before
 unfoldable pub many : {X : Type 0} → (ℕ → List ℕ → Part X) → ℕ → ℕ → List X → List ℕ → Part (List X)
 many one zero k acc xs = Ok (acc, xs)
-many one (suc n) k acc xs = andThen (one k xs) (λ p. many one n (k + 1) (acc ++ (p .0 ∷ [])) (p .1))
+many one (suc n) k acc xs = one k xs >>= λ p. many one n (k + 1) (acc ++ (p .0 ∷ [])) (p .1)
 
-abbrev pub kind : ℕ → List ℕ → Result (List ℕ) Refusal
-kind k xs = andThen (field 1 xs) (λ p. cond (eqb (p .0) k) (Ok (p .1)) (Err Length))
+abbrev pub kind : ℕ → List ℕ → Answer (List ℕ)
+kind k xs = field 1 xs >>= λ p. cond (eqb (p .0) k) (Ok (p .1)) (refuse Length)
 
--- the counts before the gates
+-- the kind and the counts before the gates
 abbrev pub head : List ℕ → Part Head
 head xs =
-    andThen (kind 1 xs) (λ ys. andThen (count 2 1024 ys) (λ n. andThen (count 2 (n .0) (n .1)) (λ o. andThen (count 4 65536 (o .1)) (λ g.
-    Ok (record { inputs = n .0; opener = o .0; gates = g .0 }, g .1)))))
+    kind 1 xs >>= λ ys. count 2 mostInputs ys >>= λ n. count 2 (n .0) (n .1) >>= λ o. count 4 mostGates (o .1) >>= λ g.
+    Ok (record { inputs = n .0; opener = o .0; gates = g .0 }, g .1)
 
 abbrev pub gates : ℕ → ℕ → List ℕ → Part (List Gate)
 gates n made xs = many gate n made [] xs
 
 abbrev pub outputs : ℕ → List ℕ → Part (List ℕ)
-outputs made xs = andThen (count 2 1024 xs) (λ n. many (λ _. wire made) (n .0) 0 [] (n .1))
+outputs made xs = count 2 mostOutputs xs >>= λ n. many (λ _. wire made) (n .0) 0 [] (n .1)
 
 -- nothing is left over
-abbrev pub ended : {X : Type 0} → X × List ℕ → Result X Refusal
-ended p = cond (eqb (length (p .1)) 0) (Ok (p .0)) (Err Length)
+abbrev pub ended : {X : Type 0} → X × List ℕ → Answer X
+ended p = cond (eqb (length (p .1)) 0) (Ok (p .0)) (refuse Length)
 
 abbrev pub assembled : Head → List Gate → List ℕ → Circuit
 assembled h gs ws = record { inputs = h .inputs; opener = h .opener; gates = gs; outputs = ws }
 
--- a circuit from its bytes, or the first fault
-abbrev pub parse : List ℕ → Result Circuit Refusal
+-- a circuit from its bytes, or the number of the first fault
+abbrev pub parse : List ℕ → Answer Circuit
 parse xs =
-    andThen (head xs) (λ h. andThen (gates (h .0 .gates) (h .0 .inputs) (h .1)) (λ g. andThen (outputs (h .0 .inputs + h .0 .gates) (g .1)) (λ o.
-    ended (assembled (h .0) (g .0) (o .0), o .1))))
+    head xs >>= λ h. gates (h .0 .gates) (h .0 .inputs) (h .1) >>= λ g. outputs (h .0 .inputs + h .0 .gates) (g .1) >>= λ o.
+    ended (assembled (h .0) (g .0) (o .0), o .1)

@@ -3,6 +3,4 @@ pub mod Numbers
 pub mod Circuit
 pub mod Format
 pub mod Kept
-pub mod Laws
 pub mod Answers
-pub mod Bits

@@ -1,5 +1,12 @@
--- The number of each refusal. Assumes nothing.
+-- The number of each refusal, and what a call answers against what is meant. Assumes nothing.
+use mathlib.Core.Path.{_≡_}
+use mathlib.Core.Bool.{true}
 use Prim.Native.Nat.{ℕ}
+use Rattle.std.specs.Results.{isOk}
+use Rattle.std.specs.declared.result.Result.{Result}
+use Rattle.std.specs.declared.result.Result.the-variants.{Ok, Err}
+use Rattle.circuit.specs.declared.refusals.Failure.{Failure}
+use Rattle.circuit.specs.declared.refusals.Failure.the-variants.{Refused, Memory}
 use Rattle.circuit.specs.declared.refusals.Refusal.{Refusal}
 use Rattle.circuit.specs.declared.refusals.Refusal.the-variants.{Length, Count, NotMade, Gives, Values}
 
@@ -9,3 +16,25 @@ numberOf Count = 2
 numberOf NotMade = 3
 numberOf Gives = 4
 numberOf Values = 7
+
+-- what is meant: an answer, or the number of a refusal
+abbrev pub Answer : Type 0 → Type 0
+Answer Y = Result Y ℕ
+
+abbrev pub refuse : {Y : Type 0} → Refusal → Answer Y
+refuse e = Err (numberOf e)
+
+-- one thing after another, up to the first refusal
+infixl 10 _>>=_
+abbrev pub _>>=_ : {X Y : Type 0} → Answer X → (X → Answer Y) → Answer Y
+Ok x >>= f = f x
+Err n >>= f = Err n
+
+abbrev pub Fails : {Y : Type 0} → Failure → Answer Y → Type 0
+Fails (Refused e) m = m ≡ refuse e
+Fails Memory m = isOk m ≡ true
+
+-- the answer and the refusals are those that are meant. Memory may run out, but only in the place of an answer: what is to be refused is refused
+abbrev pub Answers : {X Y : Type 0} → (X → Y) → Result X Failure → Answer Y → Type 0
+Answers f (Ok x) m = m ≡ Ok (f x)
+Answers f (Err e) m = Fails e m

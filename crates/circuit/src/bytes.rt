@@ -2,7 +2,7 @@
 ghost use mathlib.Core.Path.{_≡_};
 ghost use Rattle.circuit.specs.Numbers.{front, lentFront};
 
-pub fn byte(text: &[u8]) -> Option<(u8, &[u8])>
+pub(crate) fn byte(text: &[u8]) -> Option<(u8, &[u8])>
     ensures { λ r. ⌜ lentFront r ≡ front 1 (now (text .entry)) ⌝ }
 {
     let Some(([first], rest)) = text.split_first_chunk::<1>() else {
@@ -11,7 +11,7 @@ pub fn byte(text: &[u8]) -> Option<(u8, &[u8])>
     Some((*first, rest))
 }
 
-pub fn half(text: &[u8]) -> Option<(u16, &[u8])>
+pub(crate) fn half(text: &[u8]) -> Option<(u16, &[u8])>
     ensures { λ r. ⌜ lentFront r ≡ front 2 (now (text .entry)) ⌝ }
 {
     let Some((bytes, rest)) = text.split_first_chunk::<2>() else {
@@ -20,7 +20,7 @@ pub fn half(text: &[u8]) -> Option<(u16, &[u8])>
     Some((u16::from_be_bytes(*bytes), rest))
 }
 
-pub fn word(text: &[u8]) -> Option<(u32, &[u8])>
+pub(crate) fn word(text: &[u8]) -> Option<(u32, &[u8])>
     ensures { λ r. ⌜ lentFront r ≡ front 4 (now (text .entry)) ⌝ }
 {
     let Some((bytes, rest)) = text.split_first_chunk::<4>() else {

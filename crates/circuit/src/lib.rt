@@ -1,5 +1,4 @@
 // Sheets, which are boolean circuits: their bytes, and what they mean.
-mod bits;
 mod bytes;
 mod gates;
 mod reading;
@@ -8,9 +7,6 @@ mod running;
 mod sheets;
 mod writing;
 
-pub use bits::line_of;
-pub use bits::read_line;
-pub use bits::read_values;
 pub use gates::Gate;
 pub use refusals::Failure;
 pub use refusals::FailureDebug;

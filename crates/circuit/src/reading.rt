@@ -5,9 +5,11 @@ ghost use Rattle.circuit.specs.Numbers.{bits};
 ghost use Rattle.circuit.specs.Format.{lent, lentRest, kind, count, wire, gate, head, many};
 ghost use Rattle.circuit.specs.Format.{parse, encode};
 ghost use Rattle.circuit.specs.Kept.{Kept, Drafted};
-ghost use Rattle.circuit.specs.Answers.{circuitOf, Answers};
+ghost use Rattle.circuit.specs.Answers.{circuitOf};
+ghost use Rattle.circuit.specs.Circuit.{WellFormed, mostInputs, mostGates};
 ghost use Rattle.std.specs.Vec.{made};
 ghost use mathlib.Core.List.{[]};
+ghost use Rattle.circuit.specs.Refusals.{Answers};
 use crate::bytes::byte;
 use crate::bytes::half;
 use crate::bytes::word;
@@ -141,7 +143,7 @@ fn head_in(text: &[u8]) -> Result<(Head, &[u8]), Refusal>
 
 // As many gates as are told. One that finds no memory is left out, so that a fault further on is still found.
 fn gates_in(heap: Global, n: u32, inputs: u32, text: &[u8]) -> Result<(Vec<Gate>, &[u8]), Refusal>
-    requires { ⌜ n ≤ 65536 ⌝ ∗ ⌜ inputs ≤ 1024 ⌝ }
+    requires { ⌜ n ≤ mostGates ⌝ ∗ ⌜ inputs ≤ mostInputs ⌝ }
     ensures { λ r. ⌜ Kept n r (many gate n inputs [] (now (text .entry))) ⌝ }
 {
     let mut gates = Vec::new(heap);
@@ -200,6 +202,7 @@ impl Sheet {
     // A sheet from its bytes, all of them.
     pub fn read(heap: Global, text: &[u8]) -> Result<Sheet, Failure>
         ensures parsed { λ r. ⌜ Answers circuitOf r (parse (now (text .entry))) ⌝ }
+        ensures well_formed { λ r. ⌜ made r (λ s. WellFormed (circuitOf s)) ⌝ }
         ensures one_text { λ r. ⌜ made r (λ s. encode (circuitOf s) ≡ now (text .entry)) ⌝ }
     {
         let Draft {

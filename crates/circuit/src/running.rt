@@ -6,9 +6,10 @@ ghost use Prim.Native.Nat.{_<_};
 ghost use lib.ListN.{length, getD};
 ghost use Rattle.std.specs.Of.Vec.{vec-items, vec-len};
 ghost use Rattle.std.specs.Vec.{made};
-ghost use Rattle.circuit.specs.Answers.{circuitOf, Answers, valuesFor, resultFor};
-ghost use Rattle.circuit.specs.Circuit.{GoodGates, Below, at, atAll, values, Assignment};
+ghost use Rattle.circuit.specs.Answers.{circuitOf, valuesFor, resultFor};
+ghost use Rattle.circuit.specs.Circuit.{GoodGates, Below, at, atAll, values, Assignment, OneAssignment};
 ghost use Rattle.circuit.specs.Numbers.{binary};
+ghost use Rattle.circuit.specs.Refusals.{Answers};
 use crate::gates::Gate;
 use crate::refusals::Failure;
 use crate::refusals::FailureFromAlloc;
@@ -65,18 +66,26 @@ fn values_at(heap: Global, known: &[bool], wires: &[u32]) -> Result<Vec<bool>, A
     Ok(found)
 }
 
+fn all_values(heap: Global, sheet: &Sheet, inputs: &[bool]) -> Result<Vec<bool>, Failure>
+    requires { ⌜ length (now inputs) ≡ now sheet .inputs ⌝ }
+    ensures values { λ r. ⌜ Answers vec-items r (valuesFor (circuitOf (now (sheet .entry))) (now (inputs .entry))) ⌝ }
+    ensures meaning { λ r. ⌜ made r (λ v. OneAssignment (circuitOf (now (sheet .entry))) (now (inputs .entry)) (vec-items v)) ⌝ }
+{
+    let mut known = inputs.to_vec(heap)?;
+    run_gates(&mut known, sheet.gates.as_slice())?;
+    Ok(known)
+}
+
 impl Sheet {
     // The values of all wires, for as many values as inputs.
     pub fn values(&self, heap: Global, inputs: &[bool]) -> Result<Vec<bool>, Failure>
         ensures values { λ r. ⌜ Answers vec-items r (valuesFor (circuitOf (now (self .entry))) (now (inputs .entry))) ⌝ }
-        ensures meaning { λ r. ⌜ made r (λ v. Assignment (circuitOf (now (self .entry))) (now (inputs .entry)) (vec-items v)) ⌝ }
+        ensures meaning { λ r. ⌜ made r (λ v. OneAssignment (circuitOf (now (self .entry))) (now (inputs .entry)) (vec-items v)) ⌝ }
     {
         if inputs.len() != self.inputs as usize {
             return Err(Failure::Refused(Refusal::Values));
         }
-        let mut known = inputs.to_vec(heap)?;
-        run_gates(&mut known, self.gates.as_slice())?;
-        Ok(known)
+        all_values(heap, self, inputs)
     }
 
     // The values of the outputs, for as many values as inputs.

@@ -2,7 +2,7 @@
 ghost use Prim.Native.Nat.{_+_, _≤_};
 ghost use lib.ListN.{length};
 ghost use Rattle.std.specs.Of.Vec.{vec-items};
-ghost use Rattle.circuit.specs.Circuit.{Below, GoodGates};
+ghost use Rattle.circuit.specs.Circuit.{Below, GoodGates, mostInputs, mostGates, mostOutputs};
 use crate::gates::Gate;
 
 // A boolean circuit. Its wires are numbered from 0: the inputs come first, and each gate makes the next wire.
@@ -13,10 +13,10 @@ pub struct Sheet {
     pub opener: u16,
     pub gates: Vec<Gate>,
     pub outputs: Vec<u32>,
-    ghost few_inputs: { inputs ≤ 1024 },
+    ghost few_inputs: { inputs ≤ mostInputs },
     ghost opener_within: { opener ≤ inputs },
-    ghost few_gates: { length (vec-items gates) ≤ 65536 },
-    ghost few_outputs: { length (vec-items outputs) ≤ 1024 },
+    ghost few_gates: { length (vec-items gates) ≤ mostGates },
+    ghost few_outputs: { length (vec-items outputs) ≤ mostOutputs },
     ghost gates_good: { GoodGates inputs (vec-items gates) },
     ghost outputs_made: { Below (inputs + length (vec-items gates)) (vec-items outputs) },
 }

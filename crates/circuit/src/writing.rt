@@ -1,13 +1,13 @@
 // A sheet's bytes.
 ghost use mathlib.Core.Path.{_≡_};
-ghost use mathlib.Core.List.{_++_};
+ghost use mathlib.Core.List.{[], _∷_, _++_};
 ghost use Prim.Native.Nat.{_≤_};
 ghost use Rattle.std.specs.Joined.{joined};
 ghost use Rattle.std.specs.Of.Vec.{vec-items};
 ghost use Rattle.std.specs.Vec.{made};
 ghost use Rattle.std.specs.declared.result.Result.the-variants.{Ok};
 ghost use Rattle.circuit.specs.Numbers.{digits, binary};
-ghost use Rattle.circuit.specs.Format.{gateBytes, encode, parse};
+ghost use Rattle.circuit.specs.Format.{gateBytes, body, encode, parse};
 ghost use Rattle.circuit.specs.Answers.{circuitOf};
 use crate::gates::Gate;
 use crate::reading::SHEET;
@@ -37,17 +37,18 @@ fn put_wires(text: &mut Vec<u8>, wires: &[u32]) -> Result<(), AllocError>
 }
 
 // A truth table as a number, its first entry the highest bit.
-fn byte_of(gives: [bool; 4]) -> u8
-    ensures { λ r. ⌜ r ≡ binary gives ⌝ }
+fn table_byte(a: bool, b: bool, c: bool, d: bool) -> u8
+    ensures { λ r. ⌜ r ≡ binary (a ∷ b ∷ c ∷ d ∷ []) ⌝ }
 {
-    8 * u8::from(gives[0]) + 4 * u8::from(gives[1]) + 2 * u8::from(gives[2]) + u8::from(gives[3])
+    8 * u8::from(a) + 4 * u8::from(b) + 2 * u8::from(c) + u8::from(d)
 }
 
 fn put_gate(text: &mut Vec<u8>, gate: Gate) -> Result<(), AllocError>
     ensures { λ r. ⌜ made r (λ _. vec-items (now (text .exit)) ≡ vec-items (now (text .entry)) ++ gateBytes gate) ⌝ }
 {
     put_wires(text, &gate.wires)?;
-    text.push(byte_of(gate.gives))?;
+    let [a, b, c, d] = gate.gives;
+    text.push(table_byte(a, b, c, d))?;
     Ok(())
 }
 
@@ -60,6 +61,20 @@ fn put_gates(text: &mut Vec<u8>, gates: &[Gate]) -> Result<(), AllocError>
     Ok(())
 }
 
+// All that follows the kind.
+fn put_body(text: &mut Vec<u8>, sheet: &Sheet) -> Result<(), AllocError>
+    ensures bytes { λ r. ⌜ made r (λ _. vec-items (now (text .exit)) ≡ vec-items (now (text .entry)) ++ body (circuitOf (now (sheet .entry)))) ⌝ }
+    ensures read_back { λ r. ⌜ made r (λ _. parse (encode (circuitOf (now (sheet .entry)))) ≡ Ok (circuitOf (now (sheet .entry)))) ⌝ }
+{
+    put_half(text, sheet.inputs)?;
+    put_half(text, sheet.opener)?;
+    put_word(text, sheet.gates.len() as u32)?;
+    put_gates(text, sheet.gates.as_slice())?;
+    put_half(text, sheet.outputs.len() as u16)?;
+    put_wires(text, sheet.outputs.as_slice())?;
+    Ok(())
+}
+
 impl Sheet {
     // The bytes that `read` reads as this sheet.
     pub fn write(&self, heap: Global) -> Result<Vec<u8>, AllocError>
@@ -68,12 +83,7 @@ impl Sheet {
     {
         let mut text = Vec::new(heap);
         text.push(SHEET)?;
-        put_half(&mut text, self.inputs)?;
-        put_half(&mut text, self.opener)?;
-        put_word(&mut text, self.gates.len() as u32)?;
-        put_gates(&mut text, self.gates.as_slice())?;
-        put_half(&mut text, self.outputs.len() as u16)?;
-        put_wires(&mut text, self.outputs.as_slice())?;
+        put_body(&mut text, self)?;
         Ok(text)
     }
 }

@@ -88,11 +88,11 @@ fn pair(rt: &LibcRuntime, sheet: &str, first: &str, second: &str, coins: &str) -
     let sheet = Sheet::read(heap, text.as_slice())?;
     let inputs = sheet.inputs as usize;
     let text = file(rt, first)?;
-    let first = circuit::read_values(heap, inputs, text.as_slice())?;
+    let first = bits::read_values(heap, inputs, text.as_slice())?;
     let text = file(rt, second)?;
-    let second = circuit::read_values(heap, inputs, text.as_slice())?;
+    let second = bits::read_values(heap, inputs, text.as_slice())?;
     let text = file(rt, coins)?;
-    let coins = circuit::read_line(heap, inputs + sheet.gates.len(), text.as_slice())?;
+    let coins = bits::read_line(heap, inputs + sheet.gates.len(), text.as_slice())?;
     match scheme::pair(
         heap,
         &sheet,
@@ -100,7 +100,7 @@ fn pair(rt: &LibcRuntime, sheet: &str, first: &str, second: &str, coins: &str) -
         second.as_slice(),
         coins.as_slice(),
     )? {
-        Pairing::Coins(paired) => rt.println(circuit::line_of(heap, paired.as_slice())?)?,
+        Pairing::Coins(paired) => rt.println(bits::line_of(heap, paired.as_slice())?)?,
         Pairing::Differ(output) => println!(rt, "output {output} differs")?,
     }
     Ok(())

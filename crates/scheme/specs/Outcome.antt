@@ -8,10 +8,9 @@ use lib.ListN.{length}
 use Rattle.std.specs.Of.Vec.{vec-items}
 use Rattle.std.specs.declared.option.Option.{Option}
 use Rattle.std.specs.declared.option.Option.the-variants.{Some, None}
-use Rattle.std.specs.declared.result.Result.{Result}
-use Rattle.std.specs.declared.result.Result.the-variants.{Ok, Err}
+use Rattle.std.specs.declared.result.Result.the-variants.{Ok}
 use Rattle.circuit.specs.Circuit.{Circuit, wireCount, result}
-use Rattle.circuit.specs.declared.refusals.Refusal.{Refusal}
+use Rattle.circuit.specs.Refusals.{Answer, refuse}
 use Rattle.circuit.specs.declared.refusals.Refusal.the-variants.{Length, Values}
 use Rattle.scheme.specs.Coins.{pairedCoins, firstDifference, Paired, Differs}
 use Rattle.scheme.specs.declared.pairing.Pairing.{Pairing}
@@ -31,12 +30,12 @@ byDifference None ds = paired ds
 byDifference (Some k) ds = differ k
 
 -- of the inputs first, then the coins, the first that does not fit is refused
-abbrev pub pairing : Circuit → List Bool → List Bool → List Bool → Result Outcome Refusal
+abbrev pub pairing : Circuit → List Bool → List Bool → List Bool → Answer Outcome
 pairing c xs ys coins =
     cond (eqb (length xs) (c .inputs) && eqb (length ys) (c .inputs))
-    (cond (eqb (length coins) (wireCount c)) (Ok (byDifference (firstDifference 0 (result c xs) (result c ys)) (pairedCoins c xs ys coins))) (Err Length)) (Err Values)
+    (cond (eqb (length coins) (wireCount c)) (Ok (byDifference (firstDifference 0 (result c xs) (result c ys)) (pairedCoins c xs ys coins))) (refuse Length)) (refuse Values)
 
 -- what the answer means
-abbrev pub Meant : Circuit → List Bool → List Bool → List Bool → Outcome → Type 0
-Meant c xs ys coins (paired ds) = (result c xs ≡ result c ys) × Paired c xs ys coins ds
-Meant c xs ys coins (differ k) = Differs (result c xs) (result c ys) k
+abbrev pub Means : Circuit → List Bool → List Bool → List Bool → Outcome → Type 0
+Means c xs ys coins (paired ds) = (result c xs ≡ result c ys) × Paired c xs ys coins ds
+Means c xs ys coins (differ k) = Differs (result c xs) (result c ys) k

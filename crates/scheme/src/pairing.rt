@@ -1,15 +1,16 @@
 // The pairing of coins.
 ghost use mathlib.Core.Path.{_≡_};
 ghost use mathlib.Core.List.{map};
-ghost use Prim.Native.Nat.{ℕ, _≤_, _<_};
+ghost use Prim.Native.Nat.{_+_, _≤_};
 ghost use lib.ListN.{length};
 ghost use Rattle.std.specs.Iters.{counting};
-ghost use Rattle.std.specs.Of.Vec.{vec-items};
+ghost use Rattle.std.specs.Of.Vec.{vec-items, vec-len};
 ghost use Rattle.std.specs.Vec.{made};
-ghost use Rattle.circuit.specs.Answers.{circuitOf, Answers};
+ghost use Rattle.circuit.specs.Answers.{circuitOf};
 ghost use Rattle.circuit.specs.Circuit.{Below, at, atAll};
+ghost use Rattle.circuit.specs.Refusals.{Answers};
 ghost use Rattle.scheme.specs.Coins.{colour, firstDifference};
-ghost use Rattle.scheme.specs.Outcome.{outcome, pairing, Meant};
+ghost use Rattle.scheme.specs.Outcome.{outcome, pairing, Means};
 use circuit::Failure;
 use circuit::FailureFromAlloc;
 use circuit::Refusal;
@@ -40,6 +41,13 @@ fn first_difference(before: &[bool], after: &[bool], outputs: &[u32]) -> Option<
     None
 }
 
+// The coin under which the value `after` has the colour that `before` has under `coin`.
+fn paired_coin(coin: bool, before: bool, after: bool) -> bool
+    ensures { λ r. ⌜ r ≡ colour (colour coin before) after ⌝ }
+{
+    coin ^ before ^ after
+}
+
 fn paired_coins(
     heap: Global,
     coins: &[bool],
@@ -52,29 +60,24 @@ fn paired_coins(
 {
     let mut paired = Vec::new(heap);
     for w in 0..coins.len() {
-        paired.push(coins[w] ^ before[w] ^ after[w])?;
+        paired.push(paired_coin(coins[w], before[w], after[w]))?;
     }
     Ok(paired)
 }
 
-// The coins that pair these for the second input as they are for the first, or the first output in which the two differ.
-pub fn pair(
+fn pair_fitting(
     heap: Global,
     sheet: &Sheet,
     first: &[bool],
     second: &[bool],
     coins: &[bool],
 ) -> Result<Pairing, Failure>
+    requires first_fits { ⌜ length (now first) ≡ now sheet .inputs ⌝ }
+    requires second_fits { ⌜ length (now second) ≡ now sheet .inputs ⌝ }
+    requires coins_fit { ⌜ length (now coins) ≡ now sheet .inputs + vec-len (now sheet .gates) ⌝ }
     ensures answer { λ r. ⌜ Answers outcome r (pairing (circuitOf (now (sheet .entry))) (now (first .entry)) (now (second .entry)) (now (coins .entry))) ⌝ }
-    ensures meaning { λ r. ⌜ made r (λ p. Meant (circuitOf (now (sheet .entry))) (now (first .entry)) (now (second .entry)) (now (coins .entry)) (outcome p)) ⌝ }
+    ensures meaning { λ r. ⌜ made r (λ p. Means (circuitOf (now (sheet .entry))) (now (first .entry)) (now (second .entry)) (now (coins .entry)) (outcome p)) ⌝ }
 {
-    let inputs = sheet.inputs as usize;
-    if first.len() != inputs || second.len() != inputs {
-        return Err(Failure::Refused(Refusal::Values));
-    }
-    if coins.len() != inputs + sheet.gates.len() {
-        return Err(Failure::Refused(Refusal::Length));
-    }
     let before = sheet.values(heap, first)?;
     let after = sheet.values(heap, second)?;
     match first_difference(
@@ -85,4 +88,26 @@ pub fn pair(
         Some(output) => Ok(Pairing::Differ(output)),
         None => Ok(Pairing::Coins(paired_coins(heap, coins, before.as_slice(), after.as_slice())?)),
     }
+}
+
+// The coins under which an opener sees of the second input what it sees of the first under these, or the first output in which
+// the two differ.
+pub fn pair(
+    heap: Global,
+    sheet: &Sheet,
+    first: &[bool],
+    second: &[bool],
+    coins: &[bool],
+) -> Result<Pairing, Failure>
+    ensures answer { λ r. ⌜ Answers outcome r (pairing (circuitOf (now (sheet .entry))) (now (first .entry)) (now (second .entry)) (now (coins .entry))) ⌝ }
+    ensures meaning { λ r. ⌜ made r (λ p. Means (circuitOf (now (sheet .entry))) (now (first .entry)) (now (second .entry)) (now (coins .entry)) (outcome p)) ⌝ }
+{
+    let inputs = sheet.inputs as usize;
+    if first.len() != inputs || second.len() != inputs {
+        return Err(Failure::Refused(Refusal::Values));
+    }
+    if coins.len() != inputs + sheet.gates.len() {
+        return Err(Failure::Refused(Refusal::Length));
+    }
+    pair_fitting(heap, sheet, first, second, coins)
 }

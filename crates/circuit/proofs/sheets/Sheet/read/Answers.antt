@@ -23,4 +23,4 @@ ghost-result c =
 pub returns : need.returns
 returns c =
     let h = held (need.at·returns c .Else-len-count) in
-    record { parsed = h .0; one-text = h .2 }
+    record { parsed = h .0; well-formed = h .1; one-text = h .2 }
