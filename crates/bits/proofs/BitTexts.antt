@@ -13,7 +13,7 @@ use Rattle.std.specs.declared.result.Result.the-variants.{Ok}
 use Rattle.std.specs.declared.vec.Vec.{Vec}
 use Rattle.std.proofs.shelf.Lists.{drop-more, drop-all, getD-push, length-map, length-push, map-more, take-all, take-at}
 use Rattle.std.proofs.shelf.Tests.{eq-eqb, ne-eqb}
-use Rattle.bits.specs.Texts.{bitOf, allBits, bitsOf, bitsText, withoutEnd, lineOf, LineBack}
+use Rattle.bits.specs.Texts.{bitOf, allBits, bitsOf, bitsText, withoutEnd, lineOf, Line}
 use Rattle.circuit.specs.Numbers.{bit}
 use Rattle.circuit.specs.Kept.{Holds}
 use Rattle.circuit.specs.Refusals.{refuse}
@@ -80,10 +80,14 @@ no-digit (false ∷ bs) zero e = omega arith
 no-digit (true ∷ bs) zero e = omega arith
 no-digit (b ∷ bs) (suc i) e = no-digit bs i e
 
-pub line-back : (bs : List Bool) → LineBack (lineOf bs) bs
+pub line-back : (bs : List Bool) → Line bs (lineOf bs)
 line-back bs =
     let whole : bitsText 48 (length bs) Length (lineOf bs) ≡ Ok bs = rw (eq-eqb (length (lineOf bs)) (length bs) (length-map bs (λ b. 48 + bit b)), all-digits bs, back bs) in
-    (rw (no-end (lineOf bs) (no-digit bs (length (lineOf bs) - 1))) whole, rw (without-end (lineOf bs)) whole)
+    record {
+      digits = refl;
+      back = rw (no-end (lineOf bs) (no-digit bs (length (lineOf bs) - 1))) whole;
+      back-with-end = rw (without-end (lineOf bs)) whole;
+    }
 
 pub bit-le : (b : Bool) → bit b ≤ 1
 bit-le true = omega arith

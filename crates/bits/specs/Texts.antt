@@ -43,6 +43,9 @@ lineText n xs = bitsText 48 n Length (withoutEnd xs)
 abbrev pub lineOf : List Bool → List ℕ
 lineOf bs = map (λ b. 48 + bit b) bs
 
--- a line is read as the bits, with its end (10) or without
-abbrev pub LineBack : List ℕ → List Bool → Type 0
-LineBack line bs = (lineText (length bs) line ≡ Ok bs) × (lineText (length bs) (line ++ (10 ∷ [])) ≡ Ok bs)
+-- the line of some bits
+pub record Line (bs : List Bool) (line : List ℕ) : Type 0 where
+  pub digits : line ≡ lineOf bs
+  -- it is read as those bits, without its end and with it
+  pub back : lineText (length bs) line ≡ Ok bs
+  pub back-with-end : lineText (length bs) (line ++ (10 ∷ [])) ≡ Ok bs

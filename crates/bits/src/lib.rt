@@ -2,12 +2,12 @@
 ghost use mathlib.Core.List.{_++_};
 ghost use mathlib.Core.Path.{_≡_};
 ghost use Prim.Native.Nat.{_+_, _<_};
-ghost use Rattle.circuit.specs.Numbers.{bit as number-of};
+ghost use Rattle.std.specs.Of.String.{string-bytes};
 ghost use Rattle.std.specs.Of.Vec.{vec-items};
 ghost use Rattle.std.specs.Vec.{made};
-ghost use Rattle.bits.specs.Texts.{bitOf, bitsText, valuesText, withoutEnd, lineText, lineOf, LineBack};
-ghost use Rattle.std.specs.Of.String.{string-bytes};
+ghost use Rattle.circuit.specs.Numbers.{bit as number-of};
 ghost use Rattle.circuit.specs.Refusals.{Answers};
+ghost use Rattle.bits.specs.Texts.{bitOf, bitsText, valuesText, withoutEnd, lineText, lineOf, Line};
 use circuit::Failure;
 use circuit::Refusal;
 use std::alloc::AllocError;
@@ -91,7 +91,7 @@ fn digit_of(bit: bool) -> char
 
 fn push_digits(line: &mut String, bits: &[bool]) -> Result<(), AllocError>
     ensures bytes { λ r. ⌜ made r (λ _. string-bytes (now (line .exit)) ≡ string-bytes (now (line .entry)) ++ lineOf (now (bits .entry))) ⌝ }
-    ensures read_back { λ r. ⌜ made r (λ _. LineBack (lineOf (now (bits .entry))) (now (bits .entry))) ⌝ }
+    ensures line { λ r. ⌜ made r (λ _. Line (now (bits .entry)) (lineOf (now (bits .entry)))) ⌝ }
 {
     for b in bits {
         line.push(digit_of(*b))?;
@@ -101,8 +101,7 @@ fn push_digits(line: &mut String, bits: &[bool]) -> Result<(), AllocError>
 
 // The characters 0 and 1 that `read_line` reads as these bits, with the line's end or without.
 pub fn line_of(heap: Global, bits: &[bool]) -> Result<String, AllocError>
-    ensures bytes { λ r. ⌜ made r (λ s. string-bytes s ≡ lineOf (now (bits .entry))) ⌝ }
-    ensures read_back { λ r. ⌜ made r (λ s. LineBack (string-bytes s) (now (bits .entry))) ⌝ }
+    ensures { λ r. ⌜ made r (λ s. Line (now (bits .entry)) (string-bytes s)) ⌝ }
 {
     let mut line = String::new(heap);
     push_digits(&mut line, bits)?;

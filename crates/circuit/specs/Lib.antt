@@ -4,3 +4,4 @@ pub mod Circuit
 pub mod Format
 pub mod Kept
 pub mod Answers
+pub mod Promises

@@ -1,15 +1,12 @@
 // A sheet from its bytes: each part is read to its end or its first fault.
+ghost use mathlib.Core.List.{[]};
 ghost use mathlib.Core.Path.{_≡_};
 ghost use Prim.Native.Nat.{_≤_};
-ghost use Rattle.circuit.specs.Numbers.{bits};
-ghost use Rattle.circuit.specs.Format.{lent, lentRest, kind, count, wire, gate, head, many};
-ghost use Rattle.circuit.specs.Format.{parse, encode};
+ghost use Rattle.circuit.specs.Circuit.{mostInputs, mostGates};
+ghost use Rattle.circuit.specs.Format.{lent, lentRest, kind, count, wire, gate, head, many, parse};
 ghost use Rattle.circuit.specs.Kept.{Kept, Drafted};
-ghost use Rattle.circuit.specs.Answers.{circuitOf};
-ghost use Rattle.circuit.specs.Circuit.{WellFormed, mostInputs, mostGates};
-ghost use Rattle.std.specs.Vec.{made};
-ghost use mathlib.Core.List.{[]};
-ghost use Rattle.circuit.specs.Refusals.{Answers};
+ghost use Rattle.circuit.specs.Numbers.{bits};
+ghost use Rattle.circuit.specs.Promises.{Reads};
 use crate::bytes::byte;
 use crate::bytes::half;
 use crate::bytes::word;
@@ -201,9 +198,7 @@ fn draft_in(heap: Global, text: &[u8]) -> Result<Draft, Refusal>
 impl Sheet {
     // A sheet from its bytes, all of them.
     pub fn read(heap: Global, text: &[u8]) -> Result<Sheet, Failure>
-        ensures parsed { λ r. ⌜ Answers circuitOf r (parse (now (text .entry))) ⌝ }
-        ensures well_formed { λ r. ⌜ made r (λ s. WellFormed (circuitOf s)) ⌝ }
-        ensures one_text { λ r. ⌜ made r (λ s. encode (circuitOf s) ≡ now (text .entry)) ⌝ }
+        ensures { λ r. ⌜ Reads (now (text .entry)) r ⌝ }
     {
         let Draft {
             head,

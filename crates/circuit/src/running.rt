@@ -1,15 +1,13 @@
 // What a sheet means in the plain.
-ghost use mathlib.Core.Bool.{Bool, false};
-ghost use mathlib.Core.List.{List, [], _∷_};
+ghost use mathlib.Core.List.{[], _∷_};
 ghost use mathlib.Core.Path.{_≡_};
 ghost use Prim.Native.Nat.{_<_};
 ghost use lib.ListN.{length, getD};
 ghost use Rattle.std.specs.Of.Vec.{vec-items, vec-len};
 ghost use Rattle.std.specs.Vec.{made};
-ghost use Rattle.circuit.specs.Answers.{circuitOf, valuesFor, resultFor};
-ghost use Rattle.circuit.specs.Circuit.{GoodGates, Below, at, atAll, values, Assignment, OneAssignment};
+ghost use Rattle.circuit.specs.Circuit.{GoodGates, Below, at, atAll, values};
 ghost use Rattle.circuit.specs.Numbers.{binary};
-ghost use Rattle.circuit.specs.Refusals.{Answers};
+ghost use Rattle.circuit.specs.Promises.{Evaluates, Runs, RunsByGates};
 use crate::gates::Gate;
 use crate::refusals::Failure;
 use crate::refusals::FailureFromAlloc;
@@ -68,8 +66,7 @@ fn values_at(heap: Global, known: &[bool], wires: &[u32]) -> Result<Vec<bool>, A
 
 fn all_values(heap: Global, sheet: &Sheet, inputs: &[bool]) -> Result<Vec<bool>, Failure>
     requires { ⌜ length (now inputs) ≡ now sheet .inputs ⌝ }
-    ensures values { λ r. ⌜ Answers vec-items r (valuesFor (circuitOf (now (sheet .entry))) (now (inputs .entry))) ⌝ }
-    ensures meaning { λ r. ⌜ made r (λ v. OneAssignment (circuitOf (now (sheet .entry))) (now (inputs .entry)) (vec-items v)) ⌝ }
+    ensures { λ r. ⌜ Evaluates (now (sheet .entry)) (now (inputs .entry)) r ⌝ }
 {
     let mut known = inputs.to_vec(heap)?;
     run_gates(&mut known, sheet.gates.as_slice())?;
@@ -79,8 +76,7 @@ fn all_values(heap: Global, sheet: &Sheet, inputs: &[bool]) -> Result<Vec<bool>,
 impl Sheet {
     // The values of all wires, for as many values as inputs.
     pub fn values(&self, heap: Global, inputs: &[bool]) -> Result<Vec<bool>, Failure>
-        ensures values { λ r. ⌜ Answers vec-items r (valuesFor (circuitOf (now (self .entry))) (now (inputs .entry))) ⌝ }
-        ensures meaning { λ r. ⌜ made r (λ v. OneAssignment (circuitOf (now (self .entry))) (now (inputs .entry)) (vec-items v)) ⌝ }
+        ensures { λ r. ⌜ Evaluates (now (self .entry)) (now (inputs .entry)) r ⌝ }
     {
         if inputs.len() != self.inputs as usize {
             return Err(Failure::Refused(Refusal::Values));
@@ -90,8 +86,8 @@ impl Sheet {
 
     // The values of the outputs, for as many values as inputs.
     pub fn run(&self, heap: Global, inputs: &[bool]) -> Result<Vec<bool>, Failure>
-        ensures result { λ r. ⌜ Answers vec-items r (resultFor (circuitOf (now (self .entry))) (now (inputs .entry))) ⌝ }
-        ensures meaning { λ r. ⌜ made r (λ v. (vs : List Bool) → Assignment (circuitOf (now (self .entry))) (now (inputs .entry)) vs → vec-items v ≡ atAll vs (circuitOf (now (self .entry)) .outputs)) ⌝ }
+        ensures result { λ r. ⌜ Runs (now (self .entry)) (now (inputs .entry)) r ⌝ }
+        ensures meaning { λ r. ⌜ RunsByGates (now (self .entry)) (now (inputs .entry)) r ⌝ }
     {
         let known = self.values(heap, inputs)?;
         Ok(values_at(heap, known.as_slice(), self.outputs.as_slice())?)

@@ -1,14 +1,14 @@
 // A sheet's bytes.
-ghost use mathlib.Core.Path.{_≡_};
 ghost use mathlib.Core.List.{[], _∷_, _++_};
-ghost use Prim.Native.Nat.{_≤_};
+ghost use mathlib.Core.Path.{_≡_};
 ghost use Rattle.std.specs.Joined.{joined};
 ghost use Rattle.std.specs.Of.Vec.{vec-items};
 ghost use Rattle.std.specs.Vec.{made};
 ghost use Rattle.std.specs.declared.result.Result.the-variants.{Ok};
-ghost use Rattle.circuit.specs.Numbers.{digits, binary};
-ghost use Rattle.circuit.specs.Format.{gateBytes, body, encode, parse};
 ghost use Rattle.circuit.specs.Answers.{circuitOf};
+ghost use Rattle.circuit.specs.Format.{gateBytes, body, encode, parse};
+ghost use Rattle.circuit.specs.Numbers.{digits, binary};
+ghost use Rattle.circuit.specs.Promises.{Writes};
 use crate::gates::Gate;
 use crate::reading::SHEET;
 use crate::sheets::Sheet;
@@ -78,8 +78,7 @@ fn put_body(text: &mut Vec<u8>, sheet: &Sheet) -> Result<(), AllocError>
 impl Sheet {
     // The bytes that `read` reads as this sheet.
     pub fn write(&self, heap: Global) -> Result<Vec<u8>, AllocError>
-        ensures bytes { λ r. ⌜ made r (λ v. vec-items v ≡ encode (circuitOf (now (self .entry)))) ⌝ }
-        ensures read_back { λ r. ⌜ made r (λ v. parse (vec-items v) ≡ Ok (circuitOf (now (self .entry)))) ⌝ }
+        ensures { λ r. ⌜ Writes (now (self .entry)) r ⌝ }
     {
         let mut text = Vec::new(heap);
         text.push(SHEET)?;

@@ -8,10 +8,15 @@ use lib.ListN.{length}
 use Rattle.std.specs.Of.Vec.{vec-items}
 use Rattle.std.specs.declared.option.Option.{Option}
 use Rattle.std.specs.declared.option.Option.the-variants.{Some, None}
+use Rattle.std.specs.Vec.{made}
+use Rattle.std.specs.declared.result.Result.{Result}
 use Rattle.std.specs.declared.result.Result.the-variants.{Ok}
 use Rattle.circuit.specs.Circuit.{Circuit, wireCount, result}
-use Rattle.circuit.specs.Refusals.{Answer, refuse}
+use Rattle.circuit.specs.Answers.{circuitOf}
+use Rattle.circuit.specs.Refusals.{Answer, refuse, Answers}
+use Rattle.circuit.specs.declared.refusals.Failure.{Failure}
 use Rattle.circuit.specs.declared.refusals.Refusal.the-variants.{Length, Values}
+use Rattle.circuit.specs.declared.sheets.Sheet.{Sheet}
 use Rattle.scheme.specs.Coins.{pairedCoins, firstDifference, Paired, Differs}
 use Rattle.scheme.specs.declared.pairing.Pairing.{Pairing}
 use Rattle.scheme.specs.declared.pairing.Pairing.the-variants.{Coins, Differ}
@@ -39,3 +44,8 @@ pairing c xs ys coins =
 abbrev pub Means : Circuit → List Bool → List Bool → List Bool → Outcome → Type 0
 Means c xs ys coins (paired ds) = (result c xs ≡ result c ys) × Paired c xs ys coins ds
 Means c xs ys coins (differ k) = Differs (result c xs) (result c ys) k
+
+-- what pairing promises of its answer
+pub record Pairs (s : Sheet) (xs ys coins : List Bool) (r : Result Pairing Failure) : Type 0 where
+  pub answer : Answers outcome r (pairing (circuitOf s) xs ys coins)
+  pub meaning : made r (λ p. Means (circuitOf s) xs ys coins (outcome p))

@@ -1,16 +1,14 @@
 // The pairing of coins.
-ghost use mathlib.Core.Path.{_≡_};
 ghost use mathlib.Core.List.{map};
+ghost use mathlib.Core.Path.{_≡_};
 ghost use Prim.Native.Nat.{_+_, _≤_};
 ghost use lib.ListN.{length};
 ghost use Rattle.std.specs.Iters.{counting};
 ghost use Rattle.std.specs.Of.Vec.{vec-items, vec-len};
 ghost use Rattle.std.specs.Vec.{made};
-ghost use Rattle.circuit.specs.Answers.{circuitOf};
 ghost use Rattle.circuit.specs.Circuit.{Below, at, atAll};
-ghost use Rattle.circuit.specs.Refusals.{Answers};
 ghost use Rattle.scheme.specs.Coins.{colour, firstDifference};
-ghost use Rattle.scheme.specs.Outcome.{outcome, pairing, Means};
+ghost use Rattle.scheme.specs.Outcome.{Pairs};
 use circuit::Failure;
 use circuit::FailureFromAlloc;
 use circuit::Refusal;
@@ -75,8 +73,7 @@ fn pair_fitting(
     requires first_fits { ⌜ length (now first) ≡ now sheet .inputs ⌝ }
     requires second_fits { ⌜ length (now second) ≡ now sheet .inputs ⌝ }
     requires coins_fit { ⌜ length (now coins) ≡ now sheet .inputs + vec-len (now sheet .gates) ⌝ }
-    ensures answer { λ r. ⌜ Answers outcome r (pairing (circuitOf (now (sheet .entry))) (now (first .entry)) (now (second .entry)) (now (coins .entry))) ⌝ }
-    ensures meaning { λ r. ⌜ made r (λ p. Means (circuitOf (now (sheet .entry))) (now (first .entry)) (now (second .entry)) (now (coins .entry)) (outcome p)) ⌝ }
+    ensures { λ r. ⌜ Pairs (now (sheet .entry)) (now (first .entry)) (now (second .entry)) (now (coins .entry)) r ⌝ }
 {
     let before = sheet.values(heap, first)?;
     let after = sheet.values(heap, second)?;
@@ -99,8 +96,7 @@ pub fn pair(
     second: &[bool],
     coins: &[bool],
 ) -> Result<Pairing, Failure>
-    ensures answer { λ r. ⌜ Answers outcome r (pairing (circuitOf (now (sheet .entry))) (now (first .entry)) (now (second .entry)) (now (coins .entry))) ⌝ }
-    ensures meaning { λ r. ⌜ made r (λ p. Means (circuitOf (now (sheet .entry))) (now (first .entry)) (now (second .entry)) (now (coins .entry)) (outcome p)) ⌝ }
+    ensures { λ r. ⌜ Pairs (now (sheet .entry)) (now (first .entry)) (now (second .entry)) (now (coins .entry)) r ⌝ }
 {
     let inputs = sheet.inputs as usize;
     if first.len() != inputs || second.len() != inputs {

@@ -31,5 +31,5 @@ returns c =
     let bits = c .args .bits .now in
     record {
       bytes = c .loop-b .inv ∙ ap (λ bs. string-bytes (c .args .line .now) ++ lineOf bs) (take-all (c .loop-b .b-index) bits (c .loop-b-test .left));
-      read-back = line-back bits;
+      line = line-back bits;
     }
