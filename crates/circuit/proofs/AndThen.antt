@@ -4,15 +4,15 @@ use mathlib.Core.Bool.{Bool, true, false, cond}
 use Prim.Native.Nat.{ℕ}
 use native.Mathlib.Omega.{arith}
 use Rattle.std.specs.declared.result.Result.the-variants.{Ok, Err}
-use Rattle.circuit.specs.Refusals.{Answer, _>>=_}
+use Rattle.circuit.specs.Refusals.{Answer, _and-then_}
 
-pub then-is : {X Y : Type 0} {x : X} {r : Answer X} (f : X → Answer Y) → r ≡ Ok x → (r >>= f) ≡ f x
-then-is f e = ap (λ r. r >>= f) e
+pub then-is : {X Y : Type 0} {x : X} {r : Answer X} (f : X → Answer Y) → r ≡ Ok x → (r and-then f) ≡ f x
+then-is f e = ap (λ r. r and-then f) e
 
-pub then-err : {X Y : Type 0} {n : ℕ} {r : Answer X} (f : X → Answer Y) → r ≡ Err n → (r >>= f) ≡ Err n
-then-err f e = ap (λ r. r >>= f) e
+pub then-err : {X Y : Type 0} {n : ℕ} {r : Answer X} (f : X → Answer Y) → r ≡ Err n → (r and-then f) ≡ Err n
+then-err f e = ap (λ r. r and-then f) e
 
-pub then-ok : {X Y P : Type 0} {y : Y} (r : Answer X) (f : X → Answer Y) → (r >>= f) ≡ Ok y → ((x : X) → r ≡ Ok x → f x ≡ Ok y → P) → P
+pub then-ok : {X Y P : Type 0} {y : Y} (r : Answer X) (f : X → Answer Y) → (r and-then f) ≡ Ok y → ((x : X) → r ≡ Ok x → f x ≡ Ok y → P) → P
 then-ok (Ok x) f e go = go x refl e
 then-ok (Err n) f e go = absurd (let z : _≡_ {A = ℕ} 0 1 = cc in omega arith)
 

@@ -14,7 +14,7 @@ use Rattle.std.specs.declared.result.Result.the-variants.{Ok, Err}
 use Rattle.circuit.specs.Circuit.{WellFormed}
 use Rattle.circuit.specs.Format.{head, gate, count, many, wire, assembled, ended, encode, parse}
 use Rattle.circuit.specs.Kept.{Holds}
-use Rattle.circuit.specs.Refusals.{refuse, _>>=_}
+use Rattle.circuit.specs.Refusals.{refuse, _and-then_}
 use Rattle.circuit.specs.declared.gates.Gate.{Gate}
 use Rattle.circuit.specs.declared.reading.Head.{Head}
 use Rattle.circuit.specs.declared.refusals.Refusal.the-variants.{Length}
@@ -24,7 +24,7 @@ use Rattle.circuit.proofs.Accepted.{accepted}
 module _ {h : Head} {a b d : List ℕ} {gs : List Gate} {n inputs : ℕ} (text : List ℕ) (first : Ok (h, a) ≡ head text) (as-many : inputs ≡ h .inputs)
     (second : many gate (h .gates) inputs [] a ≡ Ok (gs, b)) (third : Ok (n, d) ≡ count 2 1024 b) where
   -- what is left is the outputs and the end
-  last : parse text ≡ (many (λ _. wire (inputs + h .gates)) n 0 [] d >>= λ o. ended (assembled h gs (o .0), o .1))
+  last : parse text ≡ (many (λ _. wire (inputs + h .gates)) n 0 [] d and-then λ o. ended (assembled h gs (o .0), o .1))
   last = then-is _ (sym first) ∙ then-is _ (rw as-many at second) ∙ rw (← third, as-many)
 
   pub outputs-fault : {e : ℕ} → many (λ _. wire (inputs + h .gates)) n 0 [] d ≡ Err e → parse text ≡ Err e

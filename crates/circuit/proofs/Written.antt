@@ -15,7 +15,7 @@ use Rattle.std.proofs.shelf.Tests.{le-leb, lt-ltb, eq-eqb, and-from, cond-true}
 use Rattle.circuit.specs.Numbers.{digits, bits, binary, front}
 use Rattle.circuit.specs.Circuit.{Circuit, GoodGate, WellFormed, noGate}
 use Rattle.circuit.specs.Format.{Part, field, count, wire, gate, gateOf, checked, gateBytes, many, kind, head, gates, outputs, assembled, ended, encode, parse}
-use Rattle.circuit.specs.Refusals.{refuse, _>>=_}
+use Rattle.circuit.specs.Refusals.{refuse, _and-then_}
 use Rattle.circuit.specs.declared.gates.Gate.{Gate}
 use Rattle.circuit.specs.declared.reading.Head.{Head}
 use Rattle.circuit.specs.declared.refusals.Refusal.{Refusal}

@@ -6,7 +6,7 @@ use lib.ListN.{length}
 use Rattle.std.specs.Of.Vec.{vec-items}
 use Rattle.std.specs.declared.result.Result.the-variants.{Ok}
 use Rattle.circuit.specs.Circuit.{Circuit, atAll, values}
-use Rattle.circuit.specs.Refusals.{Answer, refuse, _>>=_}
+use Rattle.circuit.specs.Refusals.{Answer, refuse, _and-then_}
 use Rattle.circuit.specs.declared.refusals.Refusal.the-variants.{Values}
 use Rattle.circuit.specs.declared.sheets.Sheet.{Sheet}
 
@@ -18,4 +18,4 @@ abbrev pub valuesFor : Circuit → List Bool → Answer (List Bool)
 valuesFor c xs = cond (eqb (length xs) (c .inputs)) (Ok (values (c .gates) xs)) (refuse Values)
 
 abbrev pub resultFor : Circuit → List Bool → Answer (List Bool)
-resultFor c xs = valuesFor c xs >>= λ vs. Ok (atAll vs (c .outputs))
+resultFor c xs = valuesFor c xs and-then λ vs. Ok (atAll vs (c .outputs))

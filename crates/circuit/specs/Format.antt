@@ -11,7 +11,7 @@ use Rattle.std.specs.declared.result.Result.{Result}
 use Rattle.std.specs.declared.result.Result.the-variants.{Ok, Err}
 use Rattle.circuit.specs.Circuit.{Circuit, mostInputs, mostGates, mostOutputs}
 use Rattle.circuit.specs.Numbers.{digits, binary, bits, front}
-use Rattle.circuit.specs.Refusals.{Answer, numberOf, refuse, _>>=_}
+use Rattle.circuit.specs.Refusals.{Answer, numberOf, refuse, _and-then_}
 use Rattle.circuit.specs.declared.gates.Gate.{Gate}
 use Rattle.circuit.specs.declared.reading.Head.{Head}
 use Rattle.circuit.specs.declared.refusals.Refusal.{Refusal}
@@ -49,11 +49,11 @@ field n xs = okOr (front n xs) (numberOf Length)
 
 -- a number of n bytes that is in its range
 abbrev pub count : ℕ → ℕ → List ℕ → Part ℕ
-count n most xs = field n xs >>= λ p. cond (leb (p .0) most) (Ok p) (refuse Count)
+count n most xs = field n xs and-then λ p. cond (leb (p .0) most) (Ok p) (refuse Count)
 
 -- the number of a wire made already
 abbrev pub wire : ℕ → List ℕ → Part ℕ
-wire made xs = field 4 xs >>= λ p. cond (ltb (p .0) made) (Ok p) (refuse NotMade)
+wire made xs = field 4 xs and-then λ p. cond (ltb (p .0) made) (Ok p) (refuse NotMade)
 
 -- a gate is read whole, and of its faults the lowest number wins
 abbrev pub gateOf : ℕ → ℕ → ℕ → Gate
@@ -64,27 +64,27 @@ checked made left right gives rest =
     cond (ltb left made && ltb right made) (cond (leb gives 15) (Ok (gateOf left right gives, rest)) (refuse Gives)) (refuse NotMade)
 
 abbrev pub gate : ℕ → List ℕ → Part Gate
-gate made xs = field 4 xs >>= λ l. field 4 (l .1) >>= λ r. field 1 (r .1) >>= λ t. checked made (l .0) (r .0) (t .0) (t .1)
+gate made xs = field 4 xs and-then λ l. field 4 (l .1) and-then λ r. field 1 (r .1) and-then λ t. checked made (l .0) (r .0) (t .0) (t .1)
 
 -- n parts one after the other, the first of them number k; acc has those before
 unfoldable pub many : {X : Type 0} → (ℕ → List ℕ → Part X) → ℕ → ℕ → List X → List ℕ → Part (List X)
 many one zero k acc xs = Ok (acc, xs)
-many one (suc n) k acc xs = one k xs >>= λ p. many one n (k + 1) (acc ++ (p .0 ∷ [])) (p .1)
+many one (suc n) k acc xs = one k xs and-then λ p. many one n (k + 1) (acc ++ (p .0 ∷ [])) (p .1)
 
 abbrev pub kind : ℕ → List ℕ → Answer (List ℕ)
-kind k xs = field 1 xs >>= λ p. cond (eqb (p .0) k) (Ok (p .1)) (refuse Length)
+kind k xs = field 1 xs and-then λ p. cond (eqb (p .0) k) (Ok (p .1)) (refuse Length)
 
 -- the kind and the counts before the gates
 abbrev pub head : List ℕ → Part Head
 head xs =
-    kind 1 xs >>= λ ys. count 2 mostInputs ys >>= λ n. count 2 (n .0) (n .1) >>= λ o. count 4 mostGates (o .1) >>= λ g.
+    kind 1 xs and-then λ ys. count 2 mostInputs ys and-then λ n. count 2 (n .0) (n .1) and-then λ o. count 4 mostGates (o .1) and-then λ g.
     Ok (record { inputs = n .0; opener = o .0; gates = g .0 }, g .1)
 
 abbrev pub gates : ℕ → ℕ → List ℕ → Part (List Gate)
 gates n made xs = many gate n made [] xs
 
 abbrev pub outputs : ℕ → List ℕ → Part (List ℕ)
-outputs made xs = count 2 mostOutputs xs >>= λ n. many (λ _. wire made) (n .0) 0 [] (n .1)
+outputs made xs = count 2 mostOutputs xs and-then λ n. many (λ _. wire made) (n .0) 0 [] (n .1)
 
 -- nothing is left over
 abbrev pub ended : {X : Type 0} → X × List ℕ → Answer X
@@ -96,5 +96,5 @@ assembled h gs ws = record { inputs = h .inputs; opener = h .opener; gates = gs;
 -- a circuit from its bytes, or the number of the first fault
 abbrev pub parse : List ℕ → Answer Circuit
 parse xs =
-    head xs >>= λ h. gates (h .0 .gates) (h .0 .inputs) (h .1) >>= λ g. outputs (h .0 .inputs + h .0 .gates) (g .1) >>= λ o.
+    head xs and-then λ h. gates (h .0 .gates) (h .0 .inputs) (h .1) and-then λ g. outputs (h .0 .inputs + h .0 .gates) (g .1) and-then λ o.
     ended (assembled (h .0) (g .0) (o .0), o .1)

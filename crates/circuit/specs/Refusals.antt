@@ -25,10 +25,10 @@ abbrev pub refuse : {Y : Type 0} → Refusal → Answer Y
 refuse e = Err (numberOf e)
 
 -- one thing after another, up to the first refusal
-infixl 10 _>>=_
-abbrev pub _>>=_ : {X Y : Type 0} → Answer X → (X → Answer Y) → Answer Y
-Ok x >>= f = f x
-Err n >>= f = Err n
+infixl 10 _and-then_
+abbrev pub _and-then_ : {X Y : Type 0} → Answer X → (X → Answer Y) → Answer Y
+Ok x and-then f = f x
+Err n and-then f = Err n
 
 abbrev pub Fails : {Y : Type 0} → Failure → Answer Y → Type 0
 Fails (Refused e) m = m ≡ refuse e
