@@ -13,12 +13,12 @@ use Rattle.std.specs.declared.result.Result.the-variants.{Ok}
 use Rattle.std.specs.declared.vec.Vec.{Vec}
 use Rattle.std.proofs.shelf.Lists.{drop-more, drop-all, getD-push, length-map, length-push, map-more, take-all, take-at}
 use Rattle.std.proofs.shelf.Tests.{eq-eqb, ne-eqb}
-use Rattle.bits.specs.Texts.{bitOf, allBits, bitsOf, bitsText, withoutEnd, lineOf, Line}
+use Rattle.bits.specs.Texts.{bitOf, allBits, bitsOf, bitsText, withoutEnd, lineOf, LineBack}
 use Rattle.circuit.specs.Numbers.{bit}
 use Rattle.circuit.specs.Kept.{Holds}
 use Rattle.circuit.specs.Refusals.{refuse}
 use Rattle.circuit.specs.declared.refusals.Refusal.{Refusal}
-use Rattle.circuit.specs.declared.refusals.Refusal.the-variants.{Length}
+use Rattle.circuit.specs.declared.refusals.Refusal.the-variants.{Malformed}
 use Rattle.circuit.proofs.Many.{kept-push}
 
 next : (base : ℕ) (text : List ℕ) (i : ℕ) → i < length text → allBits base (drop i text) ≡ isSome (bitOf base (getD text i 0)) && allBits base (drop (i + 1) text)
@@ -80,11 +80,10 @@ no-digit (false ∷ bs) zero e = omega arith
 no-digit (true ∷ bs) zero e = omega arith
 no-digit (b ∷ bs) (suc i) e = no-digit bs i e
 
-pub line-back : (bs : List Bool) → Line bs (lineOf bs)
+pub line-back : (bs : List Bool) → LineBack bs
 line-back bs =
-    let whole : bitsText 48 (length bs) Length (lineOf bs) ≡ Ok bs = rw (eq-eqb (length (lineOf bs)) (length bs) (length-map bs (λ b. 48 + bit b)), all-digits bs, back bs) in
+    let whole : bitsText 48 (length bs) Malformed (lineOf bs) ≡ Ok bs = rw (eq-eqb (length (lineOf bs)) (length bs) (length-map bs (λ b. 48 + bit b)), all-digits bs, back bs) in
     record {
-      digits = refl;
       back = rw (no-end (lineOf bs) (no-digit bs (length (lineOf bs) - 1))) whole;
       back-with-end = rw (without-end (lineOf bs)) whole;
     }

@@ -10,9 +10,9 @@ use Rattle.std.specs.declared.option.Option.{Option}
 use Rattle.std.specs.declared.option.Option.the-variants.{Some, None}
 use Rattle.std.specs.declared.result.Result.the-variants.{Ok}
 use Rattle.circuit.specs.Numbers.{bit}
-use Rattle.circuit.specs.Refusals.{Answer, refuse}
+use Rattle.circuit.specs.Refusals.{Answer, require}
 use Rattle.circuit.specs.declared.refusals.Refusal.{Refusal}
-use Rattle.circuit.specs.declared.refusals.Refusal.the-variants.{Length, Values}
+use Rattle.circuit.specs.declared.refusals.Refusal.the-variants.{Malformed, Values}
 
 -- 0 is the byte `base`, and 1 the one after it
 abbrev pub bitOf : ℕ → ℕ → Option Bool
@@ -27,7 +27,7 @@ bitsOf base xs = map (λ x. valueOr (bitOf base x) false) xs
 
 -- n bits and nothing else, or the refusal e
 abbrev pub bitsText : ℕ → ℕ → Refusal → List ℕ → Answer (List Bool)
-bitsText base n e xs = cond (eqb (length xs) n && allBits base xs) (Ok (bitsOf base xs)) (refuse e)
+bitsText base n e xs = require (eqb (length xs) n && allBits base xs) e (Ok (bitsOf base xs))
 
 -- values: the bytes 0 and 1
 abbrev pub valuesText : ℕ → List ℕ → Answer (List Bool)
@@ -38,14 +38,12 @@ abbrev pub withoutEnd : List ℕ → List ℕ
 withoutEnd xs = cond (eqb (getD xs (length xs - 1) 0) 10) (take (length xs - 1) xs) xs
 
 abbrev pub lineText : ℕ → List ℕ → Answer (List Bool)
-lineText n xs = bitsText 48 n Length (withoutEnd xs)
+lineText n xs = bitsText 48 n Malformed (withoutEnd xs)
 
 abbrev pub lineOf : List Bool → List ℕ
 lineOf bs = map (λ b. 48 + bit b) bs
 
--- the line of some bits
-pub record Line (bs : List Bool) (line : List ℕ) : Type 0 where
-  pub digits : line ≡ lineOf bs
-  -- it is read as those bits, without its end and with it
-  pub back : lineText (length bs) line ≡ Ok bs
-  pub back-with-end : lineText (length bs) (line ++ (10 ∷ [])) ≡ Ok bs
+-- the line of some bits is read as those bits, without its end and with it
+pub record LineBack (bs : List Bool) : Type 0 where
+  pub back : lineText (length bs) (lineOf bs) ≡ Ok bs
+  pub back-with-end : lineText (length bs) (lineOf bs ++ (10 ∷ [])) ≡ Ok bs

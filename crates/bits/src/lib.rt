@@ -7,7 +7,7 @@ ghost use Rattle.std.specs.Of.Vec.{vec-items};
 ghost use Rattle.std.specs.Vec.{made};
 ghost use Rattle.circuit.specs.Numbers.{bit as number-of};
 ghost use Rattle.circuit.specs.Refusals.{Answers};
-ghost use Rattle.bits.specs.Texts.{bitOf, bitsText, valuesText, withoutEnd, lineText, lineOf, Line};
+ghost use Rattle.bits.specs.Texts.{bitOf, bitsText, valuesText, withoutEnd, lineText, lineOf, LineBack};
 use circuit::Failure;
 use circuit::Refusal;
 use std::alloc::AllocError;
@@ -80,7 +80,7 @@ fn without_end(text: &[u8]) -> &[u8]
 pub fn read_line(heap: Global, count: usize, text: &[u8]) -> Result<Vec<bool>, Failure>
     ensures { λ r. ⌜ Answers vec-items r (lineText count (now (text .entry))) ⌝ }
 {
-    bits_in(heap, b'0', count, Refusal::Length, without_end(text))
+    bits_in(heap, b'0', count, Refusal::Malformed, without_end(text))
 }
 
 fn digit_of(bit: bool) -> char
@@ -90,8 +90,7 @@ fn digit_of(bit: bool) -> char
 }
 
 fn push_digits(line: &mut String, bits: &[bool]) -> Result<(), AllocError>
-    ensures bytes { λ r. ⌜ made r (λ _. string-bytes (now (line .exit)) ≡ string-bytes (now (line .entry)) ++ lineOf (now (bits .entry))) ⌝ }
-    ensures line { λ r. ⌜ made r (λ _. Line (now (bits .entry)) (lineOf (now (bits .entry)))) ⌝ }
+    ensures { λ r. ⌜ made r (λ _. string-bytes (now (line .exit)) ≡ string-bytes (now (line .entry)) ++ lineOf (now (bits .entry))) ⌝ }
 {
     for b in bits {
         line.push(digit_of(*b))?;
@@ -99,10 +98,18 @@ fn push_digits(line: &mut String, bits: &[bool]) -> Result<(), AllocError>
     Ok(())
 }
 
-// The characters 0 and 1 that `read_line` reads as these bits, with the line's end or without.
-pub fn line_of(heap: Global, bits: &[bool]) -> Result<String, AllocError>
-    ensures { λ r. ⌜ made r (λ s. Line (now (bits .entry)) (string-bytes s)) ⌝ }
+// A law of all bits, and no code: their line is read as they are.
+fn line_back(bits: &[bool])
+    ensures { λ _. ⌜ LineBack (now (bits .entry)) ⌝ }
 {
+}
+
+// The line of some bits, without its end.
+pub fn line_of(heap: Global, bits: &[bool]) -> Result<String, AllocError>
+    ensures digits { λ r. ⌜ made r (λ s. string-bytes s ≡ lineOf (now (bits .entry))) ⌝ }
+    ensures read_back { λ _. ⌜ LineBack (now (bits .entry)) ⌝ }
+{
+    line_back(bits);
     let mut line = String::new(heap);
     push_digits(&mut line, bits)?;
     Ok(line)

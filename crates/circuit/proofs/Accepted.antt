@@ -18,13 +18,13 @@ use Rattle.std.proofs.shelf.Elements.{all-take, all-drop}
 use Rattle.std.proofs.shelf.Lists.{take-append-drop, length-take-le, append-nil, nil-from-length}
 use Rattle.std.proofs.shelf.Tests.{leb-true, ltb-true, eqb-true, and-parts}
 use Rattle.circuit.specs.Numbers.{digits, bits, binary, front}
-use Rattle.circuit.specs.Circuit.{Circuit, GoodGate, GoodGates, Below, WellFormed, noGate}
-use Rattle.circuit.specs.Format.{Part, field, count, wire, gate, gateOf, checked, gateBytes, many, kind, head, gates, outputs, assembled, ended, encode, parse}
+use Rattle.circuit.specs.Circuit.{Circuit, GoodGate, WellFormed, noGate, mostInputs, mostGates, mostOutputs}
+use Rattle.circuit.specs.Format.{Part, field, count, wire, gate, gateOf, checked, gateBytes, many, kind, head, outputs, assembled, ended, encode, parse}
 use Rattle.circuit.specs.Refusals.{Answer, numberOf, refuse, _and-then_}
 use Rattle.circuit.specs.declared.gates.Gate.{Gate}
 use Rattle.circuit.specs.declared.reading.Head.{Head}
 use Rattle.circuit.specs.declared.refusals.Refusal.{Refusal}
-use Rattle.circuit.specs.declared.refusals.Refusal.the-variants.{Length, Count, NotMade, Gives}
+use Rattle.circuit.specs.declared.refusals.Refusal.the-variants.{Malformed, Count, NotMade, Table}
 use Rattle.circuit.proofs.AndThen.{then-ok, cond-ok}
 use Rattle.circuit.proofs.Numbers.{one-byte, digits-number, binary-bits, length-bits}
 
@@ -38,7 +38,7 @@ From write text p = (text ≡ write (p .0) ++ p .1) × Under 256 (p .1)
 field-from : (n : ℕ) (text : List ℕ) (p : ℕ × List ℕ) → Under 256 text → field n text ≡ Ok p → From (digits 256 n) text p
 field-from n text p under e = go (leb n (length text)) refl e
   where
-    go : (b : Bool) → leb n (length text) ≡ b → okOr (cond b (Some (number 256 (take n text), drop n text)) None) (numberOf Length) ≡ Ok p → From (digits 256 n) text p
+    go : (b : Bool) → leb n (length text) ≡ b → okOr (cond b (Some (number 256 (take n text), drop n text)) None) (numberOf Malformed) ≡ Ok p → From (digits 256 n) text p
     go true long e =
         let value : p .0 ≡ number 256 (take n text) = cc in
         let rest : p .1 ≡ drop n text = cc in
@@ -66,7 +66,7 @@ wire-from made text p under e =
 kind-from : (k : ℕ) (text rest : List ℕ) → Under 256 text → k < 256 → kind k text ≡ Ok rest → (text ≡ k ∷ rest) × Under 256 rest
 kind-from k text rest under small e =
     then-ok (field 1 text) _ e (λ q came e.
-    let t = cond-ok (eqb (q .0) k) (Ok (q .1)) (numberOf Length) e in
+    let t = cond-ok (eqb (q .0) k) (Ok (q .1)) (numberOf Malformed) e in
     let same : q .1 ≡ rest = cc (t .1) in
     let is : q .0 ≡ k = eqb-true (q .0) k (t .0) in
     let from = field-from 1 text q under came in
@@ -75,8 +75,8 @@ kind-from k text rest under small e =
 checked-from : (made left right gives : ℕ) (text rest : List ℕ) (p : Gate × List ℕ) → text ≡ digits 256 4 left ++ (digits 256 4 right ++ (digits 256 1 gives ++ rest)) →
     Under 256 rest → checked made left right gives rest ≡ Ok p → From gateBytes text p × GoodGate made (p .0)
 checked-from made left right gives text rest p is bytes e =
-    let a = cond-ok {y = p} (ltb left made && ltb right made) (cond (leb gives 15) (Ok (gateOf left right gives, rest)) (refuse Gives)) (numberOf NotMade) e in
-    let b = cond-ok {y = p} (leb gives 15) (Ok (gateOf left right gives, rest)) (numberOf Gives) (a .1) in
+    let a = cond-ok {y = p} (ltb left made && ltb right made) (cond (leb gives 15) (Ok (gateOf left right gives, rest)) (refuse Table)) (numberOf NotMade) e in
+    let b = cond-ok {y = p} (leb gives 15) (Ok (gateOf left right gives, rest)) (numberOf Table) (a .1) in
     let both = and-parts (ltb left made) (ltb right made) (a .0) in
     let small : gives ≤ 15 = leb-true gives 15 (b .0) in
     let same : p ≡ (gateOf left right gives, rest) = cc (b .1) in
@@ -117,32 +117,31 @@ module _ {X : Type 0} (one : ℕ → List ℕ → Part X) (write : X → List �
       each zero d below = let same : k + 0 ≡ k = omega arith in rw same good
       each (suc j) d below = let same : k + suc j ≡ k + 1 + j = omega arith in rw same (more .2 j d (omega arith))
 
-  many-from : (n k : ℕ) (acc : List X) (text : List ℕ) (p : List X × List ℕ) → Under 256 text → many one n k acc text ≡ Ok p →
-      (ys : List X) × (p .0 ≡ acc ++ ys) × Items write Good n k text ys (p .1)
+  many-from : (n k : ℕ) (text : List ℕ) (p : List X × List ℕ) → Under 256 text → many one n k text ≡ Ok p → Items write Good n k text (p .0) (p .1)
   unfolding many Items
-  many-from zero k acc text p under e =
-      let items : p .0 ≡ acc = cc in
-      let rest : p .1 ≡ text = cc in
-      ([], items ∙ sym (append-nil acc), (refl, (sym rest, rw rest under), λ j d below. absurd (omega arith)))
-  many-from (suc n) k acc text p under e =
+  many-from zero k text p under e =
+      let same : p ≡ ([], text) = cc in
+      rw same (refl, (refl, under), λ j d below. absurd (omega arith))
+  many-from (suc n) k text p under e =
       then-ok (one k text) _ e (λ q came e.
+      then-ok (many one n (k + 1) (q .1)) _ e (λ m came-rest e.
       let s = step k text q under came in
-      let m = many-from n (k + 1) (acc ++ (q .0 ∷ [])) (q .1) p (s .0 .1) e in
-      (q .0 ∷ m .0, m .1 ∙ append-assoc acc (q .0 ∷ []) (m .0), items-more n k text (q .1) (p .1) (q .0) (m .0) (s .0) (s .1) (m .2)))
+      let same : p ≡ (q .0 ∷ m .0, m .1) = cc in
+      rw same (items-more n k text (q .1) (m .1) (q .0) (m .0) (s .0) (s .1) (many-from n (k + 1) (q .1) m (s .0 .1) came-rest))))
 
 head-from : (text : List ℕ) (p : Head × List ℕ) → Under 256 text → head text ≡ Ok p →
     (text ≡ 1 ∷ (digits 256 2 (p .0 .inputs) ++ (digits 256 2 (p .0 .opener) ++ (digits 256 4 (p .0 .gates) ++ p .1)))) × Under 256 (p .1)
-    × (p .0 .inputs ≤ 1024) × (p .0 .opener ≤ p .0 .inputs) × (p .0 .gates ≤ 65536)
+    × (p .0 .inputs ≤ mostInputs) × (p .0 .opener ≤ p .0 .inputs) × (p .0 .gates ≤ mostGates)
 head-from text p under e =
     then-ok (kind 1 text) _ e (λ ys came-k e.
-    then-ok (count 2 1024 ys) _ e (λ n came-n e.
+    then-ok (count 2 mostInputs ys) _ e (λ n came-n e.
     then-ok (count 2 (n .0) (n .1)) _ e (λ o came-o e.
-    then-ok (count 4 65536 (o .1)) _ e (λ g came-g e.
+    then-ok (count 4 mostGates (o .1)) _ e (λ g came-g e.
     let same : p ≡ (record { inputs = n .0; opener = o .0; gates = g .0 }, g .1) = cc in
     let k-from = kind-from 1 text ys under (omega arith) came-k in
-    let n-from = count-from 2 1024 ys n (k-from .1) came-n in
+    let n-from = count-from 2 mostInputs ys n (k-from .1) came-n in
     let o-from = count-from 2 (n .0) (n .1) o (n-from .0 .1) came-o in
-    let g-from = count-from 4 65536 (o .1) g (o-from .0 .1) came-g in
+    let g-from = count-from 4 mostGates (o .1) g (o-from .0 .1) came-g in
     rw same (
       k-from .0 ∙ ap (λ zs. 1 ∷ zs) (after (digits 256 2 (n .0)) (n-from .0 .0) (after (digits 256 2 (o .0)) (o-from .0 .0) (g-from .0 .0))),
       g-from .0 .1,
@@ -154,7 +153,7 @@ head-from text p under e =
 -- a whole text, from the parts that were read
 whole : (h : Head) (gs : List Gate) (ws : List ℕ) (n : ℕ) (text a b d r : List ℕ) →
     text ≡ 1 ∷ (digits 256 2 (h .inputs) ++ (digits 256 2 (h .opener) ++ (digits 256 4 (h .gates) ++ a))) →
-    h .inputs ≤ 1024 → h .opener ≤ h .inputs → h .gates ≤ 65536 → n ≤ 1024 →
+    h .inputs ≤ mostInputs → h .opener ≤ h .inputs → h .gates ≤ mostGates → n ≤ mostOutputs →
     Items gateBytes GoodGate (h .gates) (h .inputs) a gs b → b ≡ digits 256 2 n ++ d →
     Items (digits 256 4) (λ _ w. w < h .inputs + h .gates) n 0 d ws r → length r ≡ 0 → WellFormed (assembled h gs ws) × (encode (assembled h gs ws) ≡ text)
 unfolding Items
@@ -176,16 +175,16 @@ pub accepted : (text : List ℕ) (c : Circuit) → Under 256 text → parse text
 unfolding Items
 accepted text c under e =
     then-ok (head text) _ e (λ h came-h e.
-    then-ok (gates (h .0 .gates) (h .0 .inputs) (h .1)) _ e (λ g came-g e.
+    then-ok (many gate (h .0 .gates) (h .0 .inputs) (h .1)) _ e (λ g came-g e.
     then-ok (outputs (h .0 .inputs + h .0 .gates) (g .1)) _ e (λ o came-o e.
-    then-ok (count 2 1024 (g .1)) _ came-o (λ n came-n came-w.
+    then-ok (count 2 mostOutputs (g .1)) _ came-o (λ n came-n came-w.
     let made = h .0 .inputs + h .0 .gates in
     let h-from = head-from text h under came-h in
-    let g-from = many-from gate gateBytes GoodGate gate-from (h .0 .gates) (h .0 .inputs) [] (h .1) g (h-from .1) came-g in
-    let n-from = count-from 2 1024 (g .1) n (g-from .2 .1 .1) came-n in
-    let w-from = many-from (λ _. wire made) (digits 256 4) (λ _ w. w < made) (λ _. wire-from made) (n .0) 0 [] (n .1) o (n-from .0 .1) came-w in
-    let t = cond-ok {y = c} (eqb (length (o .1)) 0) (Ok (assembled (h .0) (g .0) (o .0))) (numberOf Length) e in
-    let same : c ≡ assembled (h .0) (g-from .0) (w-from .0) = cc (t .1, g-from .1, w-from .1) in
+    let g-from = many-from gate gateBytes GoodGate gate-from (h .0 .gates) (h .0 .inputs) (h .1) g (h-from .1) came-g in
+    let n-from = count-from 2 mostOutputs (g .1) n (g-from .1 .1) came-n in
+    let w-from = many-from (λ _. wire made) (digits 256 4) (λ _ w. w < made) (λ _. wire-from made) (n .0) 0 (n .1) o (n-from .0 .1) came-w in
+    let t = cond-ok {y = c} (eqb (length (o .1)) 0) (Ok (assembled (h .0) (g .0) (o .0))) (numberOf Malformed) e in
+    let same : c ≡ assembled (h .0) (g .0) (o .0) = cc (t .1) in
     rw same
-    (whole (h .0) (g-from .0) (w-from .0) (n .0) text (h .1) (g .1) (n .1) (o .1) (h-from .0) (h-from .2) (h-from .3) (h-from .4) (n-from .1) (g-from .2) (n-from .0 .0)
-    (w-from .2) (eqb-true (length (o .1)) 0 (t .0)))))))
+    (whole (h .0) (g .0) (o .0) (n .0) text (h .1) (g .1) (n .1) (o .1) (h-from .0) (h-from .2) (h-from .3) (h-from .4) (n-from .1) g-from (n-from .0 .0)
+    w-from (eqb-true (length (o .1)) 0 (t .0)))))))

@@ -1,6 +1,6 @@
 -- What a sheet's own law says of its circuit. Assumes nothing.
 use Rattle.circuit.specs.Circuit.{WellFormed}
-use Rattle.circuit.specs.Answers.{circuitOf}
+use Rattle.circuit.specs.Meaning.{circuitOf}
 use Rattle.circuit.specs.declared.sheets.Sheet.{Sheet}
 
 pub well-formed : (s : Sheet) → WellFormed (circuitOf s)

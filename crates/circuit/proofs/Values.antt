@@ -6,7 +6,7 @@ use Prim.Native.Nat.{ℕ, zero, suc, _+_, _<_, _≤_}
 use native.Mathlib.Omega.{arith}
 use lib.ListN.{length, getD, take, drop}
 use Rattle.std.proofs.shelf.Lists.{append-nil, drop-more, drop-all, getD-append-left, getD-at, length-append, length-push, take-all, take-append-drop, take-at, take-more}
-use Rattle.circuit.specs.Circuit.{Circuit, GoodGate, GoodGates, WellFormed, at, atAll, gateValue, values, noGate, Assignment, OneAssignment}
+use Rattle.circuit.specs.Circuit.{Circuit, GoodGate, GoodGates, WellFormed, at, atAll, gateValue, extended, values, noGate, Assignment, OneAssignment}
 use Rattle.circuit.specs.Numbers.{binary}
 use Rattle.circuit.specs.declared.gates.Gate.{Gate}
 
@@ -24,18 +24,18 @@ four-of (a ∷ b ∷ c ∷ []) e = absurd (omega arith)
 four-of (a ∷ b ∷ c ∷ d ∷ []) e = refl
 four-of (a ∷ b ∷ c ∷ d ∷ x ∷ bs) e = absurd (omega arith)
 
-pub values-more : {whole more : List Bool} (gs : List Gate) (vs : List Bool) (i : ℕ) → i < length gs → values (drop i gs) vs ≡ whole →
-    more ≡ vs ++ (gateValue (getD gs i noGate) vs ∷ []) → values (drop (i + 1) gs) more ≡ whole
-unfolding values
-values-more gs vs i below so-far e = rw e (rw (drop-more gs i noGate below) at so-far)
+pub extended-more : {whole more : List Bool} (gs : List Gate) (vs : List Bool) (i : ℕ) → i < length gs → extended (drop i gs) vs ≡ whole →
+    more ≡ vs ++ (gateValue (getD gs i noGate) vs ∷ []) → extended (drop (i + 1) gs) more ≡ whole
+unfolding extended
+extended-more gs vs i below so-far e = rw e (rw (drop-more gs i noGate below) at so-far)
 
-pub values-all : {whole : List Bool} (gs : List Gate) (vs : List Bool) (i : ℕ) → length gs ≤ i → values (drop i gs) vs ≡ whole → vs ≡ whole
-unfolding values
-values-all gs vs i end so-far = rw (drop-all i gs end) at so-far
+pub extended-all : {whole : List Bool} (gs : List Gate) (vs : List Bool) (i : ℕ) → length gs ≤ i → extended (drop i gs) vs ≡ whole → vs ≡ whole
+unfolding extended
+extended-all gs vs i end so-far = rw (drop-all i gs end) at so-far
 
 -- the wires made so far come first
-grown : (gs : List Gate) (vs : List Bool) → (ws : List Bool) × (values gs vs ≡ vs ++ ws) × (length ws ≡ length gs)
-unfolding values
+grown : (gs : List Gate) (vs : List Bool) → (ws : List Bool) × (extended gs vs ≡ vs ++ ws) × (length ws ≡ length gs)
+unfolding extended
 grown [] vs = ([], sym (append-nil vs), refl)
 grown (g ∷ gs) vs =
     let x = gateValue g vs in
@@ -58,15 +58,15 @@ first-good : (n : ℕ) (g : Gate) (gs : List Gate) → GoodGates n (g ∷ gs) �
 first-good n g gs good = let same : n + 0 ≡ n = omega arith in rw same at (good 0 (omega arith))
 
 gate-agrees : (gs : List Gate) (vs : List Bool) → GoodGates (length vs) gs → (k : ℕ) → k < length gs →
-    at (values gs vs) (length vs + k) ≡ gateValue (getD gs k noGate) (values gs vs)
-unfolding values
+    at (extended gs vs) (length vs + k) ≡ gateValue (getD gs k noGate) (extended gs vs)
+unfolding extended
 gate-agrees [] vs good k below = absurd (omega arith)
 gate-agrees (g ∷ gs) vs good zero below =
     let x = gateValue g vs in
     let all = grown (g ∷ gs) vs in
     let more = grown gs (vs ++ (x ∷ [])) in
     let same : length vs + 0 ≡ length vs = omega arith in
-    let here : at (values gs (vs ++ (x ∷ []))) (length vs) ≡ x = rw (more .1, append-assoc vs (x ∷ []) (more .0)) (getD-at vs x (more .0) false (length vs) refl) in
+    let here : at (extended gs (vs ++ (x ∷ []))) (length vs) ≡ x = rw (more .1, append-assoc vs (x ∷ []) (more .0)) (getD-at vs x (more .0) false (length vs) refl) in
     rw same (here ∙ sym (rw (all .1) (known-enough g vs (all .0) (first-good (length vs) g gs good))))
 gate-agrees (g ∷ gs) vs good (suc k) below =
     let x = gateValue g vs in
@@ -75,8 +75,8 @@ gate-agrees (g ∷ gs) vs good (suc k) below =
     rw place (gate-agrees gs (vs ++ (x ∷ [])) (later (length vs) (length (vs ++ (x ∷ []))) g gs longer good) k (omega arith))
 
 only-values : (gs : List Gate) (known vs : List Bool) → GoodGates (length known) gs → length vs ≡ length known + length gs → take (length known) vs ≡ known →
-    ((k : ℕ) → k < length gs → at vs (length known + k) ≡ gateValue (getD gs k noGate) vs) → vs ≡ values gs known
-unfolding values
+    ((k : ℕ) → k < length gs → at vs (length known + k) ≡ gateValue (getD gs k noGate) vs) → vs ≡ extended gs known
+unfolding extended
 only-values [] known vs good all start agrees = sym (take-all (length known) vs (omega arith)) ∙ start
 only-values (g ∷ gs) known vs good all start agrees =
     let n = length known in
@@ -89,18 +89,18 @@ only-values (g ∷ gs) known vs good all start agrees =
     only-values gs (known ++ (x ∷ [])) vs (later n (length (known ++ (x ∷ []))) g gs longer good) (omega (arith, longer)) further
     (λ k below. let place : length (known ++ (x ∷ [])) + k ≡ n + suc k = omega (arith, longer) in rw place (agrees (suc k) (omega arith)))
 
-pub assigned : (c : Circuit) (xs : List Bool) → WellFormed c → length xs ≡ c .inputs → Assignment c xs (values (c .gates) xs)
+pub assigned : (c : Circuit) (xs : List Bool) → WellFormed c → length xs ≡ c .inputs → Assignment c xs (values c xs)
 assigned c xs good len =
     let all = grown (c .gates) xs in
     record {
-      all = rw (all .1) (length-append xs (all .0) ∙ rw (all .2, len));
+      size = rw (all .1) (length-append xs (all .0) ∙ rw (all .2, len));
       inputs = rw (← len, all .1) (take-at xs (all .0) (length xs) refl);
       gates = λ k below. rw (← len) (gate-agrees (c .gates) xs (rw len (good .4)) k below);
     }
 
-only-assignment : (c : Circuit) (xs vs : List Bool) → WellFormed c → length xs ≡ c .inputs → Assignment c xs vs → vs ≡ values (c .gates) xs
+only-assignment : (c : Circuit) (xs vs : List Bool) → WellFormed c → length xs ≡ c .inputs → Assignment c xs vs → vs ≡ values c xs
 only-assignment c xs vs good len is =
-    only-values (c .gates) xs vs (rw len (good .4)) (rw len (is .all)) (rw len (is .inputs)) (λ k below. rw len (is .gates k below))
+    only-values (c .gates) xs vs (rw len (good .4)) (rw len (is .size)) (rw len (is .inputs)) (λ k below. rw len (is .gates k below))
 
-pub one-assignment : (c : Circuit) (xs : List Bool) → WellFormed c → length xs ≡ c .inputs → OneAssignment c xs (values (c .gates) xs)
+pub one-assignment : (c : Circuit) (xs : List Bool) → WellFormed c → length xs ≡ c .inputs → OneAssignment c xs (values c xs)
 one-assignment c xs good len = record { agrees = assigned c xs good len; alone = λ us. only-assignment c xs us good len }

@@ -13,13 +13,13 @@ use Rattle.std.specs.declared.result.Result.the-variants.{Ok, Err}
 use Rattle.std.proofs.shelf.Lists.{take-at, drop-at, append-nil, length-append}
 use Rattle.std.proofs.shelf.Tests.{le-leb, lt-ltb, eq-eqb, and-from, cond-true}
 use Rattle.circuit.specs.Numbers.{digits, bits, binary, front}
-use Rattle.circuit.specs.Circuit.{Circuit, GoodGate, WellFormed, noGate}
-use Rattle.circuit.specs.Format.{Part, field, count, wire, gate, gateOf, checked, gateBytes, many, kind, head, gates, outputs, assembled, ended, encode, parse}
+use Rattle.circuit.specs.Circuit.{Circuit, GoodGate, WellFormed, noGate, mostInputs, mostGates, mostOutputs}
+use Rattle.circuit.specs.Format.{Part, field, count, wire, gate, gateOf, checked, gateBytes, many, kind, head, outputs, assembled, ended, encode, parse}
 use Rattle.circuit.specs.Refusals.{refuse, _and-then_}
 use Rattle.circuit.specs.declared.gates.Gate.{Gate}
 use Rattle.circuit.specs.declared.reading.Head.{Head}
 use Rattle.circuit.specs.declared.refusals.Refusal.{Refusal}
-use Rattle.circuit.specs.declared.refusals.Refusal.the-variants.{Length, Count, NotMade, Gives}
+use Rattle.circuit.specs.declared.refusals.Refusal.the-variants.{Count, NotMade}
 use Rattle.circuit.proofs.AndThen.{then-is}
 use Rattle.circuit.proofs.Values.{two-of}
 use Rattle.circuit.proofs.Numbers.{one-byte, length-digits, number-digits, bits-binary, binary-lt}
@@ -60,26 +60,25 @@ gate-back made g rest fits good =
 
 module _ {X : Type 0} (one : ℕ → List ℕ → Part X) (write : X → List ℕ) (Good : ℕ → X → Type 0) (most : ℕ) (d : X)
     (step : (k : ℕ) (x : X) (rest : List ℕ) → k < most → Good k x → one k (write x ++ rest) ≡ Ok (x, rest)) where
-  many-back : (xs : List X) (k : ℕ) (acc : List X) (rest : List ℕ) → k + length xs ≤ most → ((j : ℕ) → j < length xs → Good (k + j) (getD xs j d)) →
-      many one (length xs) k acc (joined write xs ++ rest) ≡ Ok (acc ++ xs, rest)
+  many-back : (xs : List X) (k : ℕ) (rest : List ℕ) → k + length xs ≤ most → ((j : ℕ) → j < length xs → Good (k + j) (getD xs j d)) →
+      many one (length xs) k (joined write xs ++ rest) ≡ Ok (xs, rest)
   unfolding many
-  many-back [] k acc rest room good = rw append-nil
-  many-back (x ∷ xs) k acc rest room good =
+  many-back [] k rest room good = refl
+  many-back (x ∷ xs) k rest room good =
       let here : Good k x = (let same : k + 0 ≡ k = omega arith in rw same at (good 0 (omega arith))) in
       let later : (j : ℕ) → j < length xs → Good (k + 1 + j) (getD xs j d) = λ j below. (let same : k + suc j ≡ k + 1 + j = omega arith in rw same at (good (suc j) (omega arith))) in
-      rw (append-assoc (write x) (joined write xs) rest, step k x (joined write xs ++ rest) (omega arith) here)
-      (many-back xs (k + 1) (acc ++ (x ∷ [])) rest (omega arith) later ∙ rw (append-assoc acc (x ∷ []) xs))
+      rw (append-assoc (write x) (joined write xs) rest, step k x (joined write xs ++ rest) (omega arith) here) (then-is _ (many-back xs (k + 1) rest (omega arith) later))
 
 kind-back : (rest : List ℕ) → kind 1 (1 ∷ rest) ≡ Ok rest
 kind-back rest = rw (le-leb 1 (suc (length rest)) (omega arith))
 
-head-back : (h : Head) (rest : List ℕ) → h .inputs ≤ 1024 → h .opener ≤ h .inputs → h .gates ≤ 65536 →
+head-back : (h : Head) (rest : List ℕ) → h .inputs ≤ mostInputs → h .opener ≤ h .inputs → h .gates ≤ mostGates →
     head (1 ∷ (digits 256 2 (h .inputs) ++ (digits 256 2 (h .opener) ++ (digits 256 4 (h .gates) ++ rest)))) ≡ Ok (h, rest)
 head-back h rest few within most =
     then-is _ (kind-back (digits 256 2 (h .inputs) ++ (digits 256 2 (h .opener) ++ (digits 256 4 (h .gates) ++ rest))))
-    ∙ then-is _ (count-back 2 1024 (h .inputs) (digits 256 2 (h .opener) ++ (digits 256 4 (h .gates) ++ rest)) (omega arith) few)
+    ∙ then-is _ (count-back 2 mostInputs (h .inputs) (digits 256 2 (h .opener) ++ (digits 256 4 (h .gates) ++ rest)) (omega arith) few)
     ∙ then-is _ (count-back 2 (h .inputs) (h .opener) (digits 256 4 (h .gates) ++ rest) (omega arith) within)
-    ∙ then-is _ (count-back 4 65536 (h .gates) rest (omega arith) most)
+    ∙ then-is _ (count-back 4 mostGates (h .gates) rest (omega arith) most)
 
 pub read-back : (c : Circuit) → WellFormed c → parse (encode c) ≡ Ok c
 read-back c good =
@@ -88,10 +87,10 @@ read-back c good =
     let gates-room : c .inputs + length (c .gates) ≤ 256 ^ 4 = (let a = good .0 in let b = good .2 in omega arith) in
     let outputs-room : 0 + length (c .outputs) ≤ 256 ^ 4 = (let a = good .3 in omega arith) in
     let tail = digits 256 2 (length (c .outputs)) ++ joined (digits 256 4) (c .outputs) in
-    let wires-back : many (λ _. wire made) (length (c .outputs)) 0 [] (joined (digits 256 4) (c .outputs)) ≡ Ok (c .outputs, []) =
-    ap (many (λ _. wire made) (length (c .outputs)) 0 []) (sym (append-nil (joined (digits 256 4) (c .outputs))))
-    ∙ many-back (λ _. wire made) (digits 256 4) (λ _ w. w < made) (256 ^ 4) 0 (λ _ x rest _ below. wire-back made x rest gates-room below) (c .outputs) 0 [] [] outputs-room
-    (good .5) in
+    let wires-back : many (λ _. wire made) (length (c .outputs)) 0 (joined (digits 256 4) (c .outputs)) ≡ Ok (c .outputs, []) =
+        ap (many (λ _. wire made) (length (c .outputs)) 0) (sym (append-nil (joined (digits 256 4) (c .outputs))))
+        ∙ many-back (λ _. wire made) (digits 256 4) (λ _ w. w < made) (256 ^ 4) 0 (λ _ x rest _ below. wire-back made x rest gates-room below) (c .outputs) 0 [] outputs-room (good .5) in
     then-is _ (head-back h (joined gateBytes (c .gates) ++ tail) (good .0) (good .1) (good .2))
-    ∙ then-is _ (many-back gate gateBytes GoodGate (256 ^ 4) noGate (λ k g rest room fine. gate-back k g rest (omega arith) fine) (c .gates) (c .inputs) [] tail gates-room (good .4))
-    ∙ then-is _ (then-is _ (count-back 2 1024 (length (c .outputs)) (joined (digits 256 4) (c .outputs)) (let a = good .3 in omega arith) (good .3)) ∙ wires-back)
+    ∙ then-is _ (many-back gate gateBytes GoodGate (256 ^ 4) noGate (λ k g rest room fine. gate-back k g rest (omega arith) fine) (c .gates) (c .inputs) tail gates-room (good .4))
+    ∙ then-is _
+      (then-is _ (count-back 2 mostOutputs (length (c .outputs)) (joined (digits 256 4) (c .outputs)) (let a = good .3 in omega arith) (good .3)) ∙ wires-back)

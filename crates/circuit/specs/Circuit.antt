@@ -55,17 +55,21 @@ atAll vs ws = map (at vs) ws
 abbrev pub gateValue : Gate → List Bool → Bool
 gateValue g vs = at (g .gives) (binary (atAll vs (g .wires)))
 
--- the values of all wires, from those of the wires so far
-unfoldable pub values : List Gate → List Bool → List Bool
-values [] vs = vs
-values (g ∷ gs) vs = values gs (vs ++ (gateValue g vs ∷ []))
+-- a value more for each gate, after those of the wires so far
+unfoldable pub extended : List Gate → List Bool → List Bool
+extended [] vs = vs
+extended (g ∷ gs) vs = extended gs (vs ++ (gateValue g vs ∷ []))
+
+-- the values of all wires, from those of the inputs
+abbrev pub values : Circuit → List Bool → List Bool
+values c xs = extended (c .gates) xs
 
 abbrev pub result : Circuit → List Bool → List Bool
-result c xs = atAll (values (c .gates) xs) (c .outputs)
+result c xs = atAll (values c xs) (c .outputs)
 
 -- values of all wires that agree with the inputs and with every gate
 pub record Assignment (c : Circuit) (xs vs : List Bool) : Type 0 where
-  pub all : length vs ≡ wireCount c
+  pub size : length vs ≡ wireCount c
   pub inputs : take (c .inputs) vs ≡ xs
   pub gates : (k : ℕ) → k < length (c .gates) → at vs (c .inputs + k) ≡ gateValue (getD (c .gates) k noGate) vs
 

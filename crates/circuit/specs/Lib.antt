@@ -1,7 +1,7 @@
-pub mod Refusals
 pub mod Numbers
 pub mod Circuit
+pub mod Refusals
 pub mod Format
-pub mod Kept
-pub mod Answers
+pub mod Meaning
 pub mod Promises
+pub mod Kept

@@ -4,7 +4,6 @@ use mathlib.Core.List.{List, [], _∷_, _++_, map}
 use Prim.Native.Nat.{ℕ, zero, suc, _/_, _%_}
 use lib.Dec.{leb, eqb}
 use lib.ListN.{length, take, drop}
-use denote.Ref.{RefT}
 use Rattle.std.specs.shelf.Digits.{number}
 use Rattle.std.specs.declared.option.Option.{Option}
 use Rattle.std.specs.declared.option.Option.the-variants.{Some, None}
@@ -29,8 +28,3 @@ bits n x = map (λ d. eqb d 1) (digits 2 n x)
 -- the number that the first n bytes write, and what is left
 abbrev pub front : ℕ → List ℕ → Option (ℕ × List ℕ)
 front n xs = cond (leb n (length xs)) (Some (number 256 (take n xs), drop n xs)) None
-
--- a value beside a lent rest, as a value and a list
-abbrev pub lentFront : {X : Type 0} → Option (X × RefT (List ℕ)) → Option (X × List ℕ)
-lentFront None = None
-lentFront (Some p) = Some (p .0, p .1 .now)

@@ -1,6 +1,7 @@
 // Numbers at the front of a text, high byte first.
 ghost use mathlib.Core.Path.{_≡_};
-ghost use Rattle.circuit.specs.Numbers.{front, lentFront};
+ghost use Rattle.circuit.specs.Kept.{lentFront};
+ghost use Rattle.circuit.specs.Numbers.{front};
 
 pub(crate) fn byte(text: &[u8]) -> Option<(u8, &[u8])>
     ensures { λ r. ⌜ lentFront r ≡ front 1 (now (text .entry)) ⌝ }

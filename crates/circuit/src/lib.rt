@@ -13,5 +13,4 @@ pub use refusals::FailureDebug;
 pub use refusals::FailureFromAlloc;
 pub use refusals::FailureFromRefusal;
 pub use refusals::Refusal;
-pub use refusals::RefusalDisplay;
 pub use sheets::Sheet;

@@ -1,12 +1,13 @@
 // A sheet from its bytes: each part is read to its end or its first fault.
-ghost use mathlib.Core.List.{[]};
 ghost use mathlib.Core.Path.{_≡_};
 ghost use Prim.Native.Nat.{_≤_};
 ghost use Rattle.circuit.specs.Circuit.{mostInputs, mostGates};
-ghost use Rattle.circuit.specs.Format.{lent, lentRest, kind, count, wire, gate, head, many, parse};
-ghost use Rattle.circuit.specs.Kept.{Kept, Drafted};
+ghost use Rattle.circuit.specs.Format.{kind, count, wire, gate, head, many, parse};
+ghost use Rattle.circuit.specs.Kept.{lent, lentRest, Kept, Drafted, Found};
 ghost use Rattle.circuit.specs.Numbers.{bits};
-ghost use Rattle.circuit.specs.Promises.{Reads};
+ghost use Rattle.std.specs.Results.{Cases};
+ghost use Rattle.circuit.specs.Refusals.{refuse};
+ghost use Rattle.circuit.specs.Promises.{Accepts, Reads};
 use crate::bytes::byte;
 use crate::bytes::half;
 use crate::bytes::word;
@@ -18,7 +19,7 @@ use crate::sheets::Sheet;
 use std::alloc::Global;
 
 // The kind that a sheet's text begins with.
-pub const SHEET: u8 = 1;
+pub(crate) const SHEET: u8 = 1;
 
 const MOST_INPUTS: u16 = 1024;
 
@@ -38,7 +39,7 @@ fn kind_in(text: &[u8]) -> Result<&[u8], Refusal>
     ensures { λ r. ⌜ lentRest r ≡ kind 1 (now (text .entry)) ⌝ }
 {
     let Some((SHEET, rest)) = byte(text) else {
-        return Err(Refusal::Length);
+        return Err(Refusal::Malformed);
     };
     Ok(rest)
 }
@@ -48,7 +49,7 @@ fn count_in(most: u16, text: &[u8]) -> Result<(u16, &[u8]), Refusal>
     ensures { λ r. ⌜ lent r ≡ count 2 most (now (text .entry)) ⌝ }
 {
     let Some((n, rest)) = half(text) else {
-        return Err(Refusal::Length);
+        return Err(Refusal::Malformed);
     };
     if n > most {
         return Err(Refusal::Count);
@@ -61,7 +62,7 @@ fn long_count_in(most: u32, text: &[u8]) -> Result<(u32, &[u8]), Refusal>
     ensures { λ r. ⌜ lent r ≡ count 4 most (now (text .entry)) ⌝ }
 {
     let Some((n, rest)) = word(text) else {
-        return Err(Refusal::Length);
+        return Err(Refusal::Malformed);
     };
     if n > most {
         return Err(Refusal::Count);
@@ -74,7 +75,7 @@ fn wire_in(made: u32, text: &[u8]) -> Result<(u32, &[u8]), Refusal>
     ensures { λ r. ⌜ lent r ≡ wire made (now (text .entry)) ⌝ }
 {
     let Some((n, rest)) = word(text) else {
-        return Err(Refusal::Length);
+        return Err(Refusal::Malformed);
     };
     if n >= made {
         return Err(Refusal::NotMade);
@@ -84,7 +85,6 @@ fn wire_in(made: u32, text: &[u8]) -> Result<(u32, &[u8]), Refusal>
 
 // The four bits of a truth table.
 fn table_of(gives: u8) -> [bool; 4]
-    requires { ⌜ gives ≤ 15 ⌝ }
     ensures { λ r. ⌜ r ≡ bits 4 gives ⌝ }
 {
     [
@@ -100,19 +100,19 @@ fn gate_in(made: u32, text: &[u8]) -> Result<(Gate, &[u8]), Refusal>
     ensures { λ r. ⌜ lent r ≡ gate made (now (text .entry)) ⌝ }
 {
     let Some((left, rest)) = word(text) else {
-        return Err(Refusal::Length);
+        return Err(Refusal::Malformed);
     };
     let Some((right, rest)) = word(rest) else {
-        return Err(Refusal::Length);
+        return Err(Refusal::Malformed);
     };
     let Some((gives, rest)) = byte(rest) else {
-        return Err(Refusal::Length);
+        return Err(Refusal::Malformed);
     };
     if left >= made || right >= made {
         return Err(Refusal::NotMade);
     }
     if gives > 15 {
-        return Err(Refusal::Gives);
+        return Err(Refusal::Table);
     }
     let gate = Gate {
         wires: [left, right],
@@ -141,7 +141,7 @@ fn head_in(text: &[u8]) -> Result<(Head, &[u8]), Refusal>
 // As many gates as are told. One that finds no memory is left out, so that a fault further on is still found.
 fn gates_in(heap: Global, n: u32, inputs: u32, text: &[u8]) -> Result<(Vec<Gate>, &[u8]), Refusal>
     requires { ⌜ n ≤ mostGates ⌝ ∗ ⌜ inputs ≤ mostInputs ⌝ }
-    ensures { λ r. ⌜ Kept n r (many gate n inputs [] (now (text .entry))) ⌝ }
+    ensures { λ r. ⌜ Kept n r (many gate n inputs (now (text .entry))) ⌝ }
 {
     let mut gates = Vec::new(heap);
     let mut rest = text;
@@ -155,7 +155,7 @@ fn gates_in(heap: Global, n: u32, inputs: u32, text: &[u8]) -> Result<(Vec<Gate>
 
 // As many wires as are told, as for gates.
 fn wires_in(heap: Global, n: u16, made: u32, text: &[u8]) -> Result<(Vec<u32>, &[u8]), Refusal>
-    ensures { λ r. ⌜ Kept n r (many (λ _. wire made) n 0 [] (now (text .entry))) ⌝ }
+    ensures { λ r. ⌜ Kept n r (many (λ _. wire made) n 0 (now (text .entry))) ⌝ }
 {
     let mut wires = Vec::new(heap);
     let mut rest = text;
@@ -185,7 +185,7 @@ fn draft_in(heap: Global, text: &[u8]) -> Result<Draft, Refusal>
     let (count, rest) = count_in(MOST_OUTPUTS, rest)?;
     let (outputs, rest) = wires_in(heap, count, inputs + head.gates, rest)?;
     if !rest.is_empty() {
-        return Err(Refusal::Length);
+        return Err(Refusal::Malformed);
     }
     Ok(Draft {
         head,
@@ -195,25 +195,26 @@ fn draft_in(heap: Global, text: &[u8]) -> Result<Draft, Refusal>
     })
 }
 
+// A sheet, or none where memory ran out.
+fn sheet_in(heap: Global, text: &[u8]) -> Result<Option<Sheet>, Refusal>
+    ensures found { λ r. ⌜ Cases r (λ o. Found o (parse (now (text .entry)))) (λ e. parse (now (text .entry)) ≡ refuse e) ⌝ }
+    ensures laws { λ _. ⌜ Accepts (now (text .entry)) ⌝ }
+{
+    let Draft { head, gates, count, outputs } = draft_in(heap, text)?;
+    if gates.len() != head.gates as usize || outputs.len() != count as usize {
+        return Ok(None);
+    }
+    Ok(Some(Sheet { inputs: head.inputs, opener: head.opener, gates, outputs }))
+}
+
 impl Sheet {
     // A sheet from its bytes, all of them.
     pub fn read(heap: Global, text: &[u8]) -> Result<Sheet, Failure>
         ensures { λ r. ⌜ Reads (now (text .entry)) r ⌝ }
     {
-        let Draft {
-            head,
-            gates,
-            count,
-            outputs,
-        } = draft_in(heap, text)?;
-        if gates.len() != head.gates as usize || outputs.len() != count as usize {
-            return Err(Failure::Memory);
+        match sheet_in(heap, text)? {
+            Some(sheet) => Ok(sheet),
+            None => Err(Failure::Memory),
         }
-        Ok(Sheet {
-            inputs: head.inputs,
-            opener: head.opener,
-            gates,
-            outputs,
-        })
     }
 }

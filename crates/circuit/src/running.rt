@@ -5,9 +5,10 @@ ghost use Prim.Native.Nat.{_<_};
 ghost use lib.ListN.{length, getD};
 ghost use Rattle.std.specs.Of.Vec.{vec-items, vec-len};
 ghost use Rattle.std.specs.Vec.{made};
-ghost use Rattle.circuit.specs.Circuit.{GoodGates, Below, at, atAll, values};
+ghost use Rattle.circuit.specs.Circuit.{wireCount, GoodGates, Below, at, atAll, extended};
+ghost use Rattle.circuit.specs.Meaning.{circuitOf};
 ghost use Rattle.circuit.specs.Numbers.{binary};
-ghost use Rattle.circuit.specs.Promises.{Evaluates, Runs, RunsByGates};
+ghost use Rattle.circuit.specs.Promises.{Evaluates, Runs};
 use crate::gates::Gate;
 use crate::refusals::Failure;
 use crate::refusals::FailureFromAlloc;
@@ -43,7 +44,7 @@ fn gate_value(wires: &[u32], gives: [bool; 4], known: &[bool]) -> bool
 // One value more for each gate.
 fn run_gates(known: &mut Vec<bool>, gates: &[Gate]) -> Result<(), AllocError>
     requires { ⌜ GoodGates (vec-len (now known)) (now gates) ⌝ }
-    ensures { λ r. ⌜ made r (λ _. vec-items (now (known .exit)) ≡ values (now (gates .entry)) (vec-items (now (known .entry)))) ⌝ }
+    ensures { λ r. ⌜ made r (λ _. vec-items (now (known .exit)) ≡ extended (now (gates .entry)) (vec-items (now (known .entry)))) ⌝ }
 {
     for g in gates {
         let value = gate_value(&g.wires, g.gives, known.as_slice());
@@ -74,6 +75,12 @@ fn all_values(heap: Global, sheet: &Sheet, inputs: &[bool]) -> Result<Vec<bool>,
 }
 
 impl Sheet {
+    pub fn wire_count(&self) -> usize
+        ensures { λ r. ⌜ r ≡ wireCount (circuitOf (now (self .entry))) ⌝ }
+    {
+        self.inputs as usize + self.gates.len()
+    }
+
     // The values of all wires, for as many values as inputs.
     pub fn values(&self, heap: Global, inputs: &[bool]) -> Result<Vec<bool>, Failure>
         ensures { λ r. ⌜ Evaluates (now (self .entry)) (now (inputs .entry)) r ⌝ }
@@ -86,8 +93,7 @@ impl Sheet {
 
     // The values of the outputs, for as many values as inputs.
     pub fn run(&self, heap: Global, inputs: &[bool]) -> Result<Vec<bool>, Failure>
-        ensures result { λ r. ⌜ Runs (now (self .entry)) (now (inputs .entry)) r ⌝ }
-        ensures meaning { λ r. ⌜ RunsByGates (now (self .entry)) (now (inputs .entry)) r ⌝ }
+        ensures { λ r. ⌜ Runs (now (self .entry)) (now (inputs .entry)) r ⌝ }
     {
         let known = self.values(heap, inputs)?;
         Ok(values_at(heap, known.as_slice(), self.outputs.as_slice())?)

@@ -5,7 +5,7 @@ ghost use Rattle.std.specs.Joined.{joined};
 ghost use Rattle.std.specs.Of.Vec.{vec-items};
 ghost use Rattle.std.specs.Vec.{made};
 ghost use Rattle.std.specs.declared.result.Result.the-variants.{Ok};
-ghost use Rattle.circuit.specs.Answers.{circuitOf};
+ghost use Rattle.circuit.specs.Meaning.{circuitOf};
 ghost use Rattle.circuit.specs.Format.{gateBytes, body, encode, parse};
 ghost use Rattle.circuit.specs.Numbers.{digits, binary};
 ghost use Rattle.circuit.specs.Promises.{Writes};
@@ -63,8 +63,7 @@ fn put_gates(text: &mut Vec<u8>, gates: &[Gate]) -> Result<(), AllocError>
 
 // All that follows the kind.
 fn put_body(text: &mut Vec<u8>, sheet: &Sheet) -> Result<(), AllocError>
-    ensures bytes { λ r. ⌜ made r (λ _. vec-items (now (text .exit)) ≡ vec-items (now (text .entry)) ++ body (circuitOf (now (sheet .entry)))) ⌝ }
-    ensures read_back { λ r. ⌜ made r (λ _. parse (encode (circuitOf (now (sheet .entry)))) ≡ Ok (circuitOf (now (sheet .entry)))) ⌝ }
+    ensures { λ r. ⌜ made r (λ _. vec-items (now (text .exit)) ≡ vec-items (now (text .entry)) ++ body (circuitOf (now (sheet .entry)))) ⌝ }
 {
     put_half(text, sheet.inputs)?;
     put_half(text, sheet.opener)?;
@@ -75,11 +74,18 @@ fn put_body(text: &mut Vec<u8>, sheet: &Sheet) -> Result<(), AllocError>
     Ok(())
 }
 
+// A law of every sheet, and no code: what writes it is read as it.
+fn read_back(sheet: &Sheet)
+    ensures { λ _. ⌜ parse (encode (circuitOf (now (sheet .entry)))) ≡ Ok (circuitOf (now (sheet .entry))) ⌝ }
+{
+}
+
 impl Sheet {
     // The bytes that `read` reads as this sheet.
     pub fn write(&self, heap: Global) -> Result<Vec<u8>, AllocError>
         ensures { λ r. ⌜ Writes (now (self .entry)) r ⌝ }
     {
+        read_back(self);
         let mut text = Vec::new(heap);
         text.push(SHEET)?;
         put_body(&mut text, self)?;

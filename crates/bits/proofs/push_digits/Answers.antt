@@ -3,13 +3,12 @@ use mathlib.Core.Bool.{false}
 use mathlib.Core.List.{[], _∷_, _++_, append-assoc}
 use Prim.Native.Nat.{_+_, _<_}
 use native.Mathlib.Omega.{arith}
-use borrow.Author.Needs.{needs}
 use lib.ListN.{getD, take}
 use Rattle.std.specs.Of.String.{string-bytes}
 use Rattle.std.proofs.shelf.Lists.{append-nil, map-more, take-all}
 use Rattle.circuit.specs.Numbers.{bit}
 use Rattle.bits.specs.Texts.{lineOf}
-use Rattle.bits.proofs.BitTexts.{bit-le, line-back}
+use Rattle.bits.proofs.BitTexts.{bit-le}
 use Rattle.bits.proofs.push_digits.Needs as need
 
 pub loop-b-holds : need.loop-b-holds
@@ -28,8 +27,4 @@ loop-b-again c =
 
 pub returns : need.returns
 returns c =
-    let bits = c .args .bits .now in
-    record {
-      bytes = c .loop-b .inv ∙ ap (λ bs. string-bytes (c .args .line .now) ++ lineOf bs) (take-all (c .loop-b .b-index) bits (c .loop-b-test .left));
-      line = line-back bits;
-    }
+    c .loop-b .inv ∙ ap (λ bs. string-bytes (c .args .line .now) ++ lineOf bs) (take-all (c .loop-b .b-index) (c .args .bits .now) (c .loop-b-test .left))
