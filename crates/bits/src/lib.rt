@@ -101,8 +101,7 @@ fn push_digits(line: &mut String, bits: &[bool]) -> Result<(), AllocError>
 // A law of all bits, and no code: their line is read as they are.
 fn line_back(bits: &[bool])
     ensures { λ _. ⌜ LineBack (now (bits .entry)) ⌝ }
-{
-}
+{}
 
 // The line of some bits, without its end.
 pub fn line_of(heap: Global, bits: &[bool]) -> Result<String, AllocError>

@@ -47,10 +47,12 @@ module _ {X Z : Type 0} (one : ℕ → List ℕ → Part X) where
   going-more {ys} {x} n k text i v w rest b below going e items len =
       let left : n - i ≡ suc (n - (i + 1)) = omega arith in
       let next : k + (i + 1) ≡ k + i + 1 = omega arith in
-      let push = kept-push b i v w (going .0) x (going .2) (going .3) items len in
-      ( going .0 ++ (x ∷ [])
-      , rw next ((rw (left, ← e) at (going .1)) ∙ after-more (going .0) x (many one (n - (i + 1)) (k + i + 1) ys))
-      , push .0, push .1)
+      let push = kept-push b i v w (going .0) x (going .2) (going .3) items len in (
+        going .0 ++ (x ∷ []),
+        rw next ((rw (left, ← e) at (going .1)) ∙ after-more (going .0) x (many one (n - (i + 1)) (k + i + 1) ys)),
+        push .0,
+        push .1,
+      )
 
   pub going-fault : {e : ℕ} (n k : ℕ) (text : List ℕ) (i : ℕ) (v : Vec X Z) (rest : List ℕ) → i < n →
       Going n k text i v rest → Err e ≡ one (k + i) rest → many one n k text ≡ Err e

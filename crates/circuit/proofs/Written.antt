@@ -88,9 +88,9 @@ read-back c good =
     let outputs-room : 0 + length (c .outputs) ≤ 256 ^ 4 = (let a = good .3 in omega arith) in
     let tail = digits 256 2 (length (c .outputs)) ++ joined (digits 256 4) (c .outputs) in
     let wires-back : many (λ _. wire made) (length (c .outputs)) 0 (joined (digits 256 4) (c .outputs)) ≡ Ok (c .outputs, []) =
-        ap (many (λ _. wire made) (length (c .outputs)) 0) (sym (append-nil (joined (digits 256 4) (c .outputs))))
-        ∙ many-back (λ _. wire made) (digits 256 4) (λ _ w. w < made) (256 ^ 4) 0 (λ _ x rest _ below. wire-back made x rest gates-room below) (c .outputs) 0 [] outputs-room (good .5) in
+    ap (many (λ _. wire made) (length (c .outputs)) 0) (sym (append-nil (joined (digits 256 4) (c .outputs))))
+    ∙ many-back (λ _. wire made) (digits 256 4) (λ _ w. w < made) (256 ^ 4) 0 (λ _ x rest _ below. wire-back made x rest gates-room below) (c .outputs) 0 [] outputs-room (good .5) in
     then-is _ (head-back h (joined gateBytes (c .gates) ++ tail) (good .0) (good .1) (good .2))
     ∙ then-is _ (many-back gate gateBytes GoodGate (256 ^ 4) noGate (λ k g rest room fine. gate-back k g rest (omega arith) fine) (c .gates) (c .inputs) tail gates-room (good .4))
     ∙ then-is _
-      (then-is _ (count-back 2 mostOutputs (length (c .outputs)) (joined (digits 256 4) (c .outputs)) (let a = good .3 in omega arith) (good .3)) ∙ wires-back)
+    (then-is _ (count-back 2 mostOutputs (length (c .outputs)) (joined (digits 256 4) (c .outputs)) (let a = good .3 in omega arith) (good .3)) ∙ wires-back)

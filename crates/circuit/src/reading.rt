@@ -200,11 +200,21 @@ fn sheet_in(heap: Global, text: &[u8]) -> Result<Option<Sheet>, Refusal>
     ensures found { λ r. ⌜ Cases r (λ o. Found o (parse (now (text .entry)))) (λ e. parse (now (text .entry)) ≡ refuse e) ⌝ }
     ensures laws { λ _. ⌜ Accepts (now (text .entry)) ⌝ }
 {
-    let Draft { head, gates, count, outputs } = draft_in(heap, text)?;
+    let Draft {
+        head,
+        gates,
+        count,
+        outputs,
+    } = draft_in(heap, text)?;
     if gates.len() != head.gates as usize || outputs.len() != count as usize {
         return Ok(None);
     }
-    Ok(Some(Sheet { inputs: head.inputs, opener: head.opener, gates, outputs }))
+    Ok(Some(Sheet {
+        inputs: head.inputs,
+        opener: head.opener,
+        gates,
+        outputs,
+    }))
 }
 
 impl Sheet {

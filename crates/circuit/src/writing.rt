@@ -77,8 +77,7 @@ fn put_body(text: &mut Vec<u8>, sheet: &Sheet) -> Result<(), AllocError>
 // A law of every sheet, and no code: what writes it is read as it.
 fn read_back(sheet: &Sheet)
     ensures { λ _. ⌜ parse (encode (circuitOf (now (sheet .entry)))) ≡ Ok (circuitOf (now (sheet .entry))) ⌝ }
-{
-}
+{}
 
 impl Sheet {
     // The bytes that `read` reads as this sheet.

@@ -1,27 +1,27 @@
--- Turning over, twice and against an equal bit. Assumes nothing.
+-- Exclusive or: with the same bit, twice with the same bit, and as the code has it. Assumes nothing.
 use mathlib.Core.Path.{_≡_, refl}
 use mathlib.Core.Bool.{Bool, true, false, not, Bool·beq}
-use Rattle.scheme.specs.Coins.{colour}
+use Rattle.scheme.specs.Coins.{_⊕_}
 
-pub colour-twice : (c v : Bool) → colour (colour c v) v ≡ c
-colour-twice true true = refl
-colour-twice true false = refl
-colour-twice false true = refl
-colour-twice false false = refl
+pub xor-twice : (c v : Bool) → c ⊕ v ⊕ v ≡ c
+xor-twice true true = refl
+xor-twice true false = refl
+xor-twice false true = refl
+xor-twice false false = refl
 
-pub colour-same : (x : Bool) → colour x x ≡ false
-colour-same true = refl
-colour-same false = refl
+pub xor-same : (x : Bool) → x ⊕ x ≡ false
+xor-same true = refl
+xor-same false = refl
 
--- what `!=` and `^` on bits mean
-pub colour-xor : (x y : Bool) → colour x y ≡ not (Bool·beq x y)
-colour-xor true true = refl
-colour-xor true false = refl
-colour-xor false true = refl
-colour-xor false false = refl
+-- what `!=` on bits means
+pub xor-differs : (x y : Bool) → x ⊕ y ≡ not (Bool·beq x y)
+xor-differs true true = refl
+xor-differs true false = refl
+xor-differs false true = refl
+xor-differs false false = refl
 
-pub same-from : (x y : Bool) → colour x y ≡ false → x ≡ y
-same-from true true e = refl
-same-from true false e = cc
-same-from false true e = cc
-same-from false false e = refl
+pub same-from-xor : (x y : Bool) → x ⊕ y ≡ false → x ≡ y
+same-from-xor true true e = refl
+same-from-xor true false e = cc
+same-from-xor false true e = cc
+same-from-xor false false e = refl

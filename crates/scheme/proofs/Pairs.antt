@@ -1,93 +1,76 @@
 -- Paired coins do what pairing is for, and so the answer of pairing means what it should. Assumes nothing.
-use mathlib.Core.Path.{_≡_, refl, sym, ap, ap₂, _∙_}
-use mathlib.Core.Bool.{Bool, true, false}
-use mathlib.Core.Logic.{⊎-elim}
-use mathlib.Core.List.{List, map}
-use Prim.Native.Nat.{ℕ, min, _+_, _<_, _≤_}
+use mathlib.Core.Path.{_≡_, sym, ap, ap₂, _∙_}
+use mathlib.Core.Bool.{Bool, false}
+use mathlib.Core.List.{List, [], _∷_, map}
+use Prim.Native.Nat.{ℕ, _+_, _<_}
 use native.Mathlib.Omega.{arith}
-use lib.Dec.{eqb}
 use lib.ListN.{length, getD, take}
-use Rattle.std.specs.Iters.{counting}
-use Rattle.std.specs.declared.option.Option.{Option}
 use Rattle.std.specs.declared.option.Option.the-variants.{Some, None}
 use Rattle.std.specs.declared.result.Result.the-variants.{Ok}
 use Rattle.std.proofs.shelf.Counted.{length-map-counting, getD-map-counting}
-use Rattle.std.proofs.shelf.Lists.{ext-getD, getD-take, length-map, length-take, take-all}
-use Rattle.std.proofs.shelf.Tests.{cases-lt, eq-eqb}
-use Rattle.circuit.specs.Answers.{valuesFor}
+use Rattle.std.proofs.shelf.Lists.{ext-getD, getD-map, getD-take, length-map}
+use Rattle.std.proofs.shelf.Tests.{eq-eqb}
 use Rattle.circuit.specs.Circuit.{Circuit, WellFormed, wireCount, at, atAll, values, result}
+use Rattle.circuit.specs.Meaning.{valuesFor}
 use Rattle.circuit.proofs.Values.{assigned}
-use Rattle.scheme.specs.Coins.{colour, activeColour, pairedCoins, Paired, firstDifference, Differs}
-use Rattle.scheme.specs.Outcome.{Outcome, paired, differ, byDifference, pairing}
-use Rattle.scheme.proofs.Colours.{colour-twice}
+use Rattle.scheme.specs.Coins.{_⊕_, activeColour, pairedCoins, Paired, firstDifference, Differs}
+use Rattle.scheme.specs.Outcome.{paired, differ, byDifference, pairing, SameResult}
+use Rattle.scheme.proofs.Colours.{xor-twice}
 use Rattle.scheme.proofs.Differences.{no-difference, difference}
 
-paired-at : (c : Circuit) (xs ys coins : List Bool) (w : ℕ) → w < wireCount c →
-    at (pairedCoins c xs ys coins) w ≡ colour (activeColour c xs coins w) (at (values (c .gates) ys) w)
-paired-at c xs ys coins w below = getD-map-counting (λ w. colour (activeColour c xs coins w) (at (values (c .gates) ys) w)) 0 (wireCount c) w w false below (omega arith)
-
-paired-length : (c : Circuit) (xs ys coins : List Bool) → length (pairedCoins c xs ys coins) ≡ wireCount c
-paired-length c xs ys coins = length-map-counting (λ w. colour (activeColour c xs coins w) (at (values (c .gates) ys) w)) 0 (wireCount c)
-
-keeps-colours : (c : Circuit) (xs ys coins : List Bool) (w : ℕ) → w < wireCount c → activeColour c ys (pairedCoins c xs ys coins) w ≡ activeColour c xs coins w
-keeps-colours c xs ys coins w below =
-    ap (λ b. colour b (at (values (c .gates) ys) w)) (paired-at c xs ys coins w below) ∙ colour-twice (activeColour c xs coins w) (at (values (c .gates) ys) w)
-
-pairs-back : (c : Circuit) (xs ys coins : List Bool) → length coins ≡ wireCount c → pairedCoins c ys xs (pairedCoins c xs ys coins) ≡ coins
-pairs-back c xs ys coins fit =
-    let there = pairedCoins c xs ys coins in
-    let len = paired-length c ys xs there in
-    ext-getD false (pairedCoins c ys xs there) coins (len ∙ sym fit) (λ w below.
-    let within : w < wireCount c = omega arith in
-    paired-at c ys xs there w within ∙ ap (λ b. colour b (at (values (c .gates) xs) w)) (keeps-colours c xs ys coins w within)
-    ∙ colour-twice (at coins w) (at (values (c .gates) xs) w))
-
--- the inputs come first among the values
-first-values : (c : Circuit) (xs : List Bool) → WellFormed c → length xs ≡ c .inputs → (w : ℕ) → w < c .inputs → at (values (c .gates) xs) w ≡ at xs w
-first-values c xs good fit w below = sym (getD-take (c .inputs) (values (c .gates) xs) w false below) ∙ ap (λ vs. at vs w) (assigned c xs good fit .inputs)
-
-module _ (c : Circuit) (xs ys : List Bool) (good : WellFormed c) (xs-fit : length xs ≡ c .inputs) (ys-fit : length ys ≡ c .inputs) where
-  same-values : (k : ℕ) → take k xs ≡ take k ys → (w : ℕ) → w < k → at (values (c .gates) xs) w ≡ at (values (c .gates) ys) w
-  same-values k same w below = ⊎-elim input inner (cases-lt w (c .inputs))
-    where
-      input : w < c .inputs → at (values (c .gates) xs) w ≡ at (values (c .gates) ys) w
-      input within =
-          first-values c xs good xs-fit w within ∙ sym (getD-take k xs w false below) ∙ ap (λ vs. at vs w) same ∙ getD-take k ys w false below
-          ∙ sym (first-values c ys good ys-fit w within)
-
-      inner : c .inputs ≤ w → at (values (c .gates) xs) w ≡ at (values (c .gates) ys) w
-      inner past =
-          let equal : xs ≡ ys = sym (take-all k xs (omega arith)) ∙ same ∙ take-all k ys (omega arith) in
-          ap (λ zs. at (values (c .gates) zs) w) equal
-
-  own-coins : (coins : List Bool) → length coins ≡ wireCount c → (k : ℕ) → take k xs ≡ take k ys → take k (pairedCoins c xs ys coins) ≡ take k coins
-  own-coins coins fit k same =
-      let there = pairedCoins c xs ys coins in
-      let len = paired-length c xs ys coins in
-      let a = length-take k there in
-      let b = length-take k coins in
-      ext-getD false (take k there) (take k coins) (a ∙ ap (min k) (len ∙ sym fit) ∙ sym b) (λ w below.
-      let early : w < k = omega (arith, a) in
-      let within : w < wireCount c = omega (arith, a, len) in
-      getD-take k there w false early ∙ paired-at c xs ys coins w within
-      ∙ ap (λ b. colour (activeColour c xs coins w) b) (sym (same-values k same w early)) ∙ colour-twice (at coins w) (at (values (c .gates) xs) w)
-      ∙ sym (getD-take k coins w false early))
-
-  pairs : (coins : List Bool) → length coins ≡ wireCount c → Paired c xs ys coins (pairedCoins c xs ys coins)
-  pairs coins fit =
-      record { all = paired-length c xs ys coins; colours = keeps-colours c xs ys coins; back = pairs-back c xs ys coins fit; own = own-coins coins fit }
-
-pub values-are : (c : Circuit) (xs known : List Bool) → length xs ≡ c .inputs → valuesFor c xs ≡ Ok known → known ≡ values (c .gates) xs
+pub values-are : (c : Circuit) (xs known : List Bool) → length xs ≡ c .inputs → valuesFor c xs ≡ Ok known → known ≡ values c xs
 values-are c xs known fit is = let same = rw (eq-eqb (length xs) (c .inputs) fit) at is in cc
 
-pub by-values : {before after : List Bool} (c : Circuit) (xs ys coins : List Bool) → length coins ≡ wireCount c → before ≡ values (c .gates) xs → after ≡ values (c .gates) ys →
-    map (λ w. colour (colour (at coins w) (at before w)) (at after w)) (counting 0 (length coins)) ≡ pairedCoins c xs ys coins
-by-values c xs ys coins fit b a = simp (fit, b, a)
+paired-size : (c : Circuit) (xs ys coins : List Bool) → length (pairedCoins c xs ys coins) ≡ length coins
+paired-size c xs ys coins = length-map-counting (λ w. at coins w ⊕ at (values c xs) w ⊕ at (values c ys) w) 0 (length coins)
 
--- the answer and its meaning, where all that is given fits, and the values of all wires are known
+paired-at : (c : Circuit) (xs ys coins : List Bool) (w : ℕ) → w < length coins → at (pairedCoins c xs ys coins) w ≡ activeColour c xs coins w ⊕ at (values c ys) w
+paired-at c xs ys coins w below = getD-map-counting (λ w. at coins w ⊕ at (values c xs) w ⊕ at (values c ys) w) 0 (length coins) w w false below (omega arith)
+
+keeps-colours : (c : Circuit) (xs ys coins : List Bool) (w : ℕ) → w < length coins → activeColour c ys (pairedCoins c xs ys coins) w ≡ activeColour c xs coins w
+keeps-colours c xs ys coins w below = ap (λ b. b ⊕ at (values c ys) w) (paired-at c xs ys coins w below) ∙ xor-twice (activeColour c xs coins w) (at (values c ys) w)
+
+pairs-back : (c : Circuit) (xs ys coins : List Bool) → pairedCoins c ys xs (pairedCoins c xs ys coins) ≡ coins
+pairs-back c xs ys coins =
+    let there = pairedCoins c xs ys coins in
+    let size = paired-size c xs ys coins in
+    ext-getD false (pairedCoins c ys xs there) coins (paired-size c ys xs there ∙ size) (λ w below.
+    let back-within : w < length there = omega (arith, paired-size c ys xs there) in
+    let within : w < length coins = omega (arith, size) in
+    paired-at c ys xs there w back-within ∙ ap (λ b. b ⊕ at (values c xs) w) (keeps-colours c xs ys coins w within) ∙ xor-twice (at coins w) (at (values c xs) w))
+
+keeps-coins : (c : Circuit) (xs ys coins : List Bool) (w : ℕ) → w < length coins → at (values c xs) w ≡ at (values c ys) w → at (pairedCoins c xs ys coins) w ≡ at coins w
+keeps-coins c xs ys coins w below same =
+    paired-at c xs ys coins w below ∙ ap (λ b. activeColour c xs coins w ⊕ b) (sym same) ∙ xor-twice (at coins w) (at (values c xs) w)
+
+-- the inputs come first among the values
+first-values : (c : Circuit) (xs : List Bool) → WellFormed c → length xs ≡ c .inputs → (w : ℕ) → w < c .inputs → at (values c xs) w ≡ at xs w
+first-values c xs good fit w below = sym (getD-take (c .inputs) (values c xs) w false below) ∙ ap (λ vs. at vs w) (assigned c xs good fit .inputs)
+
+-- wires with the same values keep their coins
+kept-all : (c : Circuit) (xs ys coins : List Bool) (ws : List ℕ) → ((k : ℕ) → k < length ws → getD ws k 0 < length coins) →
+    atAll (values c xs) ws ≡ atAll (values c ys) ws → atAll (pairedCoins c xs ys coins) ws ≡ atAll coins ws
+kept-all c xs ys coins ws made same =
+    ext-getD false (atAll (pairedCoins c xs ys coins) ws) (atAll coins ws) (length-map ws (at (pairedCoins c xs ys coins)) ∙ sym (length-map ws (at coins))) (λ k below.
+    let within : k < length ws = omega (arith, length-map ws (at (pairedCoins c xs ys coins))) in
+    let here : at (values c xs) (getD ws k 0) ≡ at (values c ys) (getD ws k 0) =
+    sym (getD-map (at (values c xs)) ws k 0 false within) ∙ ap (λ vs. at vs k) same ∙ getD-map (at (values c ys)) ws k 0 false within in
+    getD-map (at (pairedCoins c xs ys coins)) ws k 0 false within ∙ keeps-coins c xs ys coins (getD ws k 0) (made k within) here ∙ sym (getD-map (at coins) ws k 0 false within))
+
+-- the answer and its meaning, where all that is given fits
 module _ (c : Circuit) (xs ys coins : List Bool) (good : WellFormed c) (xs-fit : length xs ≡ c .inputs) (ys-fit : length ys ≡ c .inputs)
     (coins-fit : length coins ≡ wireCount c) where
-  -- the difference of the two results
+  pairs : Paired c xs ys coins (pairedCoins c xs ys coins)
+  pairs =
+      record {
+        size = paired-size c xs ys coins ∙ coins-fit;
+        colours = λ w below. keeps-colours c xs ys coins w (omega arith);
+        back = pairs-back c xs ys coins;
+        kept = λ w below same. keeps-coins c xs ys coins w (omega arith) same;
+        inputs = λ w below same. keeps-coins c xs ys coins w (omega arith)
+            (first-values c xs good xs-fit w below ∙ same ∙ sym (first-values c ys good ys-fit w below));
+      }
+
   by-result : pairing c xs ys coins ≡ Ok (byDifference (firstDifference 0 (result c xs) (result c ys)) (pairedCoins c xs ys coins))
   by-result = rw (eq-eqb (length xs) (c .inputs) xs-fit, eq-eqb (length ys) (c .inputs) ys-fit, eq-eqb (length coins) (wireCount c) coins-fit)
 
@@ -98,9 +81,15 @@ module _ (c : Circuit) (xs ys coins : List Bool) (good : WellFormed c) (xs-fit :
       (by-result ∙ rw (← is), rw same (d .2))
 
   pub paired-answer : (ds : List Bool) → None ≡ firstDifference 0 (result c xs) (result c ys) → ds ≡ pairedCoins c xs ys coins →
-      (pairing c xs ys coins ≡ Ok (paired ds)) × ((result c xs ≡ result c ys) × Paired c xs ys coins ds)
+      (pairing c xs ys coins ≡ Ok (paired ds)) × SameResult c xs ys coins ds
   paired-answer ds is same =
-      let as-long : length (result c xs) ≡ length (result c ys) = length-map (c .outputs) (at (values (c .gates) xs)) ∙ sym (length-map (c .outputs) (at (values (c .gates) ys))) in (
+      let as-long : length (result c xs) ≡ length (result c ys) = length-map (c .outputs) (at (values c xs)) ∙ sym (length-map (c .outputs) (at (values c ys))) in
+      let one-result = no-difference 0 (result c xs) (result c ys) as-long (sym is) in (
         by-result ∙ rw (← is, same),
-        (no-difference 0 (result c xs) (result c ys) as-long (sym is), rw same (pairs c xs ys good xs-fit ys-fit coins coins-fit)),
+        rw same
+            (record {
+              result = one-result;
+              pairs = pairs;
+              outputs = kept-all c xs ys coins (c .outputs) (λ k below. rw coins-fit (good .5 k below)) one-result;
+            }),
       )

@@ -3,37 +3,50 @@ use mathlib.Core.Path.{_≡_}
 use mathlib.Core.Bool.{Bool, true, false, not, cond}
 use mathlib.Core.List.{List, [], _∷_, map}
 use Prim.Native.Nat.{ℕ, _+_, _<_}
-use lib.ListN.{length, take}
+use lib.ListN.{length}
 use Rattle.std.specs.Iters.{counting}
 use Rattle.std.specs.declared.option.Option.{Option}
 use Rattle.std.specs.declared.option.Option.the-variants.{Some, None}
-use Rattle.circuit.specs.Circuit.{Circuit, wireCount, at, values, result}
+use Rattle.circuit.specs.Circuit.{Circuit, wireCount, at, values}
+
+-- exclusive or
+infixl 40 _⊕_
+abbrev pub _⊕_ : Bool → Bool → Bool
+false ⊕ b = b
+true ⊕ b = not b
 
 -- the colour of a value's key: the value, turned over if the coin is 1
 abbrev pub colour : Bool → Bool → Bool
-colour false value = value
-colour true value = not value
+colour coin value = coin ⊕ value
 
--- the active colour of a wire
+-- the colour of the key that an opener holds of a wire
 abbrev pub activeColour : Circuit → List Bool → List Bool → ℕ → Bool
-activeColour c xs coins w = colour (at coins w) (at (values (c .gates) xs) w)
+activeColour c xs coins w = colour (at coins w) (at (values c xs) w)
 
--- for each wire the coin under which its value for ys has the colour that its value for xs has under coins
+-- the coins that give the values `after` the colours that the values `before` have under coins
+abbrev pub pairedBy : List Bool → List Bool → List Bool → List Bool
+pairedBy coins before after = map (λ w. at coins w ⊕ at before w ⊕ at after w) (counting 0 (length coins))
+
 abbrev pub pairedCoins : Circuit → List Bool → List Bool → List Bool → List Bool
-pairedCoins c xs ys coins = map (λ w. colour (activeColour c xs coins w) (at (values (c .gates) ys) w)) (counting 0 (wireCount c))
+pairedCoins c xs ys coins = pairedBy coins (values c xs) (values c ys)
 
--- what pairing is for: every wire keeps its colour, it can be undone, and inputs that are the same keep their coins
+-- what pairing is for
 pub record Paired (c : Circuit) (xs ys coins paired : List Bool) : Type 0 where
-  pub all : length paired ≡ wireCount c
+  pub size : length paired ≡ wireCount c
+  -- every wire keeps its active colour
   pub colours : (w : ℕ) → w < wireCount c → activeColour c ys paired w ≡ activeColour c xs coins w
+  -- it can be undone, so it is one to one
   pub back : pairedCoins c ys xs paired ≡ coins
-  pub own : (k : ℕ) → take k xs ≡ take k ys → take k paired ≡ take k coins
+  -- a wire whose value is the same keeps its coin
+  pub kept : (w : ℕ) → w < wireCount c → at (values c xs) w ≡ at (values c ys) w → at paired w ≡ at coins w
+  -- and so does an input that is the same
+  pub inputs : (w : ℕ) → w < c .inputs → at xs w ≡ at ys w → at paired w ≡ at coins w
 
 -- the place of the first difference, counted from k
 unfoldable pub firstDifference : ℕ → List Bool → List Bool → Option ℕ
 firstDifference k [] ys = None
 firstDifference k (x ∷ xs) [] = None
-firstDifference k (x ∷ xs) (y ∷ ys) = cond (colour x y) (Some k) (firstDifference (k + 1) xs ys)
+firstDifference k (x ∷ xs) (y ∷ ys) = cond (x ⊕ y) (Some k) (firstDifference (k + 1) xs ys)
 
 -- k is the first place at which two results differ
 pub record Differs (r s : List Bool) (k : ℕ) : Type 0 where

@@ -1,6 +1,6 @@
 -- What pairing answers. Assumes nothing.
 use mathlib.Core.Path.{_≡_}
-use mathlib.Core.Bool.{Bool, cond, _&&_}
+use mathlib.Core.Bool.{Bool, _&&_}
 use mathlib.Core.List.{List}
 use Prim.Native.Nat.{ℕ}
 use lib.Dec.{eqb}
@@ -11,11 +11,11 @@ use Rattle.std.specs.declared.option.Option.the-variants.{Some, None}
 use Rattle.std.specs.Vec.{made}
 use Rattle.std.specs.declared.result.Result.{Result}
 use Rattle.std.specs.declared.result.Result.the-variants.{Ok}
-use Rattle.circuit.specs.Circuit.{Circuit, wireCount, result}
-use Rattle.circuit.specs.Answers.{circuitOf}
-use Rattle.circuit.specs.Refusals.{Answer, refuse, Answers}
+use Rattle.circuit.specs.Circuit.{Circuit, wireCount, atAll, result}
+use Rattle.circuit.specs.Meaning.{circuitOf}
+use Rattle.circuit.specs.Refusals.{Answer, require, Answers}
 use Rattle.circuit.specs.declared.refusals.Failure.{Failure}
-use Rattle.circuit.specs.declared.refusals.Refusal.the-variants.{Length, Values}
+use Rattle.circuit.specs.declared.refusals.Refusal.the-variants.{Malformed, Values}
 use Rattle.circuit.specs.declared.sheets.Sheet.{Sheet}
 use Rattle.scheme.specs.Coins.{pairedCoins, firstDifference, Paired, Differs}
 use Rattle.scheme.specs.declared.pairing.Pairing.{Pairing}
@@ -34,15 +34,21 @@ abbrev pub byDifference : Option ℕ → List Bool → Outcome
 byDifference None ds = paired ds
 byDifference (Some k) ds = differ k
 
--- of the inputs first, then the coins, the first that does not fit is refused
+-- the inputs are looked at first, then the coins
 abbrev pub pairing : Circuit → List Bool → List Bool → List Bool → Answer Outcome
 pairing c xs ys coins =
-    cond (eqb (length xs) (c .inputs) && eqb (length ys) (c .inputs))
-    (cond (eqb (length coins) (wireCount c)) (Ok (byDifference (firstDifference 0 (result c xs) (result c ys)) (pairedCoins c xs ys coins))) (refuse Length)) (refuse Values)
+    require (eqb (length xs) (c .inputs) && eqb (length ys) (c .inputs)) Values (require (eqb (length coins) (wireCount c)) Malformed
+    (Ok (byDifference (firstDifference 0 (result c xs) (result c ys)) (pairedCoins c xs ys coins))))
+
+-- one result, and coins that are paired; those of the outputs, by which a result is read off, stay
+pub record SameResult (c : Circuit) (xs ys coins ds : List Bool) : Type 0 where
+  pub result : result c xs ≡ result c ys
+  pub pairs : Paired c xs ys coins ds
+  pub outputs : atAll ds (c .outputs) ≡ atAll coins (c .outputs)
 
 -- what the answer means
 abbrev pub Means : Circuit → List Bool → List Bool → List Bool → Outcome → Type 0
-Means c xs ys coins (paired ds) = (result c xs ≡ result c ys) × Paired c xs ys coins ds
+Means c xs ys coins (paired ds) = SameResult c xs ys coins ds
 Means c xs ys coins (differ k) = Differs (result c xs) (result c ys) k
 
 -- what pairing promises of its answer

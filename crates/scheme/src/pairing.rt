@@ -1,13 +1,12 @@
 // The pairing of coins.
-ghost use mathlib.Core.List.{map};
 ghost use mathlib.Core.Path.{_≡_};
-ghost use Prim.Native.Nat.{_+_, _≤_};
+ghost use Prim.Native.Nat.{_≤_};
 ghost use lib.ListN.{length};
-ghost use Rattle.std.specs.Iters.{counting};
-ghost use Rattle.std.specs.Of.Vec.{vec-items, vec-len};
+ghost use Rattle.std.specs.Of.Vec.{vec-items};
 ghost use Rattle.std.specs.Vec.{made};
-ghost use Rattle.circuit.specs.Circuit.{Below, at, atAll};
-ghost use Rattle.scheme.specs.Coins.{colour, firstDifference};
+ghost use Rattle.circuit.specs.Circuit.{wireCount, Below, atAll};
+ghost use Rattle.circuit.specs.Meaning.{circuitOf};
+ghost use Rattle.scheme.specs.Coins.{_⊕_, pairedBy, firstDifference};
 ghost use Rattle.scheme.specs.Outcome.{Pairs};
 use circuit::Failure;
 use circuit::FailureFromAlloc;
@@ -39,9 +38,9 @@ fn first_difference(before: &[bool], after: &[bool], outputs: &[u32]) -> Option<
     None
 }
 
-// The coin under which the value `after` has the colour that `before` has under `coin`.
+// The coin that gives the value `after` the colour that `before` has under `coin`.
 fn paired_coin(coin: bool, before: bool, after: bool) -> bool
-    ensures { λ r. ⌜ r ≡ colour (colour coin before) after ⌝ }
+    ensures { λ r. ⌜ r ≡ coin ⊕ before ⊕ after ⌝ }
 {
     coin ^ before ^ after
 }
@@ -54,7 +53,7 @@ fn paired_coins(
 ) -> Result<Vec<bool>, AllocError>
     requires before_within { ⌜ length (now coins) ≤ length (now before) ⌝ }
     requires after_within { ⌜ length (now coins) ≤ length (now after) ⌝ }
-    ensures { λ r. ⌜ made r (λ v. vec-items v ≡ map (λ w. colour (colour (at (now (coins .entry)) w) (at (now (before .entry)) w)) (at (now (after .entry)) w)) (counting 0 (length (now (coins .entry))))) ⌝ }
+    ensures { λ r. ⌜ made r (λ v. vec-items v ≡ pairedBy (now (coins .entry)) (now (before .entry)) (now (after .entry))) ⌝ }
 {
     let mut paired = Vec::new(heap);
     for w in 0..coins.len() {
@@ -72,7 +71,7 @@ fn pair_fitting(
 ) -> Result<Pairing, Failure>
     requires first_fits { ⌜ length (now first) ≡ now sheet .inputs ⌝ }
     requires second_fits { ⌜ length (now second) ≡ now sheet .inputs ⌝ }
-    requires coins_fit { ⌜ length (now coins) ≡ now sheet .inputs + vec-len (now sheet .gates) ⌝ }
+    requires coins_fit { ⌜ length (now coins) ≡ wireCount (circuitOf (now sheet)) ⌝ }
     ensures { λ r. ⌜ Pairs (now (sheet .entry)) (now (first .entry)) (now (second .entry)) (now (coins .entry)) r ⌝ }
 {
     let before = sheet.values(heap, first)?;
@@ -102,8 +101,8 @@ pub fn pair(
     if first.len() != inputs || second.len() != inputs {
         return Err(Failure::Refused(Refusal::Values));
     }
-    if coins.len() != inputs + sheet.gates.len() {
-        return Err(Failure::Refused(Refusal::Length));
+    if coins.len() != sheet.wire_count() {
+        return Err(Failure::Refused(Refusal::Malformed));
     }
     pair_fitting(heap, sheet, first, second, coins)
 }
