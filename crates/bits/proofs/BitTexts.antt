@@ -1,7 +1,7 @@
 -- Bits as text: the loop that reads them, and a line that is read back. Assumes nothing.
 use mathlib.Core.Path.{_≡_, refl, sym, ap, _∙_}
 use mathlib.Core.Bool.{Bool, true, false, cond, _&&_}
-use mathlib.Core.List.{List, [], _∷_, _++_, map}
+use mathlib.Core.List.{List, [], _∷_, _++_}
 use Prim.Native.Nat.{ℕ, zero, suc, _+_, _-_, _<_, _≤_}
 use native.Mathlib.Omega.{arith}
 use lib.Dec.{eqb}
@@ -11,7 +11,7 @@ use Rattle.std.specs.Options.{isSome, valueOr}
 use Rattle.std.specs.declared.option.Option.the-variants.{Some, None}
 use Rattle.std.specs.declared.result.Result.the-variants.{Ok}
 use Rattle.std.specs.declared.vec.Vec.{Vec}
-use Rattle.std.proofs.shelf.Lists.{drop-more, drop-all, getD-push, length-map, length-push, map-more, take-all, take-at}
+use Rattle.std.proofs.shelf.Lists.{drop-more, drop-all, getD-push, length-map, length-push, map-more, take-at}
 use Rattle.std.proofs.shelf.Tests.{eq-eqb, ne-eqb}
 use Rattle.bits.specs.Texts.{bitOf, allBits, bitsOf, bitsText, withoutEnd, lineOf, LineBack}
 use Rattle.circuit.specs.Numbers.{bit}

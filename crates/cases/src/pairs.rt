@@ -115,42 +115,42 @@ fn what_does_not_fit(rt: LibcRuntime) -> Result<(), Fail> {
     refused(heap, &two, &three, &two, 7)
 }
 
-fn bits_or_number(
-    read: Result<Vec<bool>, Failure>,
-    expected: &[bool],
-    refusal: u8,
-) -> Result<(), Fail> {
+fn reads(read: Result<Vec<bool>, Failure>, expected: &[bool]) -> Result<(), Fail> {
+    let bits = read?;
+    check(bits.as_slice() == expected)
+}
+
+fn refuses(read: Result<Vec<bool>, Failure>, expected: u8) -> Result<(), Fail> {
     match read {
-        Ok(bits) => check(refusal == 0 && bits.as_slice() == expected),
-        Err(e) => check_eq(number(e)?, refusal),
+        Ok(_) => Err(Fail::new("not refused")),
+        Err(e) => check_eq(number(e)?, expected),
     }
 }
 
 #[test]
 fn values(rt: LibcRuntime) -> Result<(), Fail> {
     let heap = rt.alloc();
-    bits_or_number(
+    reads(
         bits::read_values(heap, 3, b"\x01\0\x01"),
         &[true, false, true],
-        0,
     )?;
-    bits_or_number(bits::read_values(heap, 0, b""), &[], 0)?;
-    bits_or_number(bits::read_values(heap, 2, b"\x01\0\x01"), &[], 7)?;
-    bits_or_number(bits::read_values(heap, 3, b"\x01\0"), &[], 7)?;
-    bits_or_number(bits::read_values(heap, 2, b"\x01\x02"), &[], 7)?;
-    bits_or_number(bits::read_values(heap, 1, b"1"), &[], 7)
+    reads(bits::read_values(heap, 0, b""), &[])?;
+    refuses(bits::read_values(heap, 2, b"\x01\0\x01"), 7)?;
+    refuses(bits::read_values(heap, 3, b"\x01\0"), 7)?;
+    refuses(bits::read_values(heap, 2, b"\x01\x02"), 7)?;
+    refuses(bits::read_values(heap, 1, b"1"), 7)
 }
 
 #[test]
 fn lines(rt: LibcRuntime) -> Result<(), Fail> {
     let heap = rt.alloc();
-    bits_or_number(bits::read_line(heap, 3, b"101"), &[true, false, true], 0)?;
-    bits_or_number(bits::read_line(heap, 3, b"101\n"), &[true, false, true], 0)?;
-    bits_or_number(bits::read_line(heap, 0, b"\n"), &[], 0)?;
-    bits_or_number(bits::read_line(heap, 3, b"10"), &[], 1)?;
-    bits_or_number(bits::read_line(heap, 3, b"101\n\n"), &[], 1)?;
-    bits_or_number(bits::read_line(heap, 3, b"10 "), &[], 1)?;
-    bits_or_number(bits::read_line(heap, 3, b"102"), &[], 1)?;
-    bits_or_number(bits::read_line(heap, 3, b"\x01\0\x01"), &[], 1)?;
+    reads(bits::read_line(heap, 3, b"101"), &[true, false, true])?;
+    reads(bits::read_line(heap, 3, b"101\n"), &[true, false, true])?;
+    reads(bits::read_line(heap, 0, b"\n"), &[])?;
+    refuses(bits::read_line(heap, 3, b"10"), 1)?;
+    refuses(bits::read_line(heap, 3, b"101\n\n"), 1)?;
+    refuses(bits::read_line(heap, 3, b"10 "), 1)?;
+    refuses(bits::read_line(heap, 3, b"102"), 1)?;
+    refuses(bits::read_line(heap, 3, b"\x01\0\x01"), 1)?;
     check(bits::line_of(heap, &[true, false, true])?.as_str() == "101")
 }

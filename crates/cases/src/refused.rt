@@ -16,21 +16,6 @@ const CASES: &str = "
 1  02 0002 0001 00000001  00000000 00000001 01  0001 00000002
 1  ff
 
-1  01                                                           # cuts
-1  01 00
-1  01 0002
-1  01 0002 00
-1  01 0002 0001
-1  01 0002 0001 000000
-1  01 0002 0001 00000001
-1  01 0002 0001 00000001  00000000
-1  01 0002 0001 00000001  00000000 00000001
-1  01 0002 0001 00000001  00000000 00000001 01
-1  01 0002 0001 00000001  00000000 00000001 01  00
-1  01 0002 0001 00000001  00000000 00000001 01  0001
-1  01 0002 0001 00000001  00000000 00000001 01  0001 000000
-1  01 0002 0001 00000001  00000000 00000001 01  0002 00000002
-
 1  01 0002 0001 00000001  00000000 00000001 01  0001 00000002 00   # bytes left over
 1  01 0000 0000 00000000  0000 01
 
@@ -80,7 +65,18 @@ fn number(heap: Global, text: &[u8]) -> Result<u8, Fail> {
     }
 }
 
-fn holds(heap: Global, line: &str) -> Result<(), Fail> {
+// The bytes of hexadecimal digits, two for each.
+fn bytes_of(heap: Global, digits: &[u8]) -> Result<Vec<u8>, Fail> {
+    let mut text = Vec::new(heap);
+    check(digits.len() % 2 == 0)?;
+    for i in 0..digits.len() / 2 {
+        text.push(digits[2 * i] << 4 | digits[2 * i + 1])?;
+    }
+    Ok(text)
+}
+
+// Whether a line has a case; it fails where the case does not hold.
+fn holds(heap: Global, line: &str) -> Result<bool, Fail> {
     let mut digits = Vec::new(heap);
     for b in line.bytes() {
         if b == b'#' {
@@ -91,19 +87,30 @@ fn holds(heap: Global, line: &str) -> Result<(), Fail> {
         }
     }
     let [expected, rest @ ..] = digits.as_slice() else {
-        return Ok(());
+        return Ok(false);
     };
-    let mut text = Vec::new(heap);
-    for i in 0..rest.len() / 2 {
-        text.push(rest[2 * i] << 4 | rest[2 * i + 1])?;
-    }
-    check_eq(number(heap, text.as_slice())?, *expected).note(line)
+    let text = bytes_of(heap, rest)?;
+    check_eq(number(heap, text.as_slice())?, *expected).note(line)?;
+    Ok(true)
 }
 
 #[test]
 fn each_text_has_its_number(rt: LibcRuntime) -> Result<(), Fail> {
+    let mut cases = 0u32;
     for line in CASES.lines() {
-        holds(rt.alloc(), line)?;
+        if holds(rt.alloc(), line)? {
+            cases = cases.saturating_add(1);
+        }
+    }
+    check_eq(cases, 34)
+}
+
+#[test]
+fn every_cut_is_refused(rt: LibcRuntime) -> Result<(), Fail> {
+    let text = b"\x01\0\x02\0\x01\0\0\0\x01\0\0\0\0\0\0\0\x01\x01\0\x01\0\0\0\x02";
+    check_eq(number(rt.alloc(), text)?, 0)?;
+    for n in 0..text.len() {
+        check_eq(number(rt.alloc(), &text[0..n])?, 1)?;
     }
     Ok(())
 }

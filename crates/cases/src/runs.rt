@@ -18,6 +18,11 @@ fn gives(heap: Global, sheet: &Sheet, inputs: &[bool], expected: &[bool]) -> Res
     check(result.as_slice() == expected)
 }
 
+fn evaluates(heap: Global, sheet: &Sheet, inputs: &[bool], expected: &[bool]) -> Result<(), Fail> {
+    let values = sheet.values(heap, inputs)?;
+    check(values.len() == sheet.wire_count() && values.as_slice() == expected)
+}
+
 fn written(heap: Global, sheet: &Sheet, expected: &[u8]) -> Result<(), Fail> {
     let text = sheet.write(heap)?;
     check(text.as_slice() == expected)
@@ -49,6 +54,12 @@ fn shared_and_repeated_wires(rt: LibcRuntime) -> Result<(), Fail> {
         heap,
         &sheet,
         &[true, true],
+        &[true, false, false, false, true, true],
+    )?;
+    evaluates(
+        heap,
+        &sheet,
+        &[true, false],
         &[true, false, false, false, true, true],
     )?;
     written(heap, &sheet, MIXED)

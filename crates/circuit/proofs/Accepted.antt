@@ -2,28 +2,24 @@
 use mathlib.Core.Path.{_≡_, refl, sym, ap, _∙_}
 use mathlib.Core.Bool.{Bool, true, false, cond, _&&_}
 use mathlib.Core.List.{List, [], _∷_, _++_, append-assoc}
-use Prim.Native.Nat.{ℕ, zero, suc, _+_, _<_, _≤_, _^_}
-use native.Mathlib.Numerals.{add-one}
+use Prim.Native.Nat.{ℕ, zero, suc, _+_, _<_, _≤_}
 use native.Mathlib.Omega.{arith}
 use lib.Dec.{eqb, ltb, leb}
 use lib.ListN.{length, getD, take, drop}
 use Rattle.std.specs.shelf.Digits.{number, Under}
 use Rattle.std.specs.Joined.{joined}
 use Rattle.std.specs.Options.{okOr}
-use Rattle.std.specs.declared.option.Option.{Option}
 use Rattle.std.specs.declared.option.Option.the-variants.{Some, None}
-use Rattle.std.specs.declared.result.Result.{Result}
-use Rattle.std.specs.declared.result.Result.the-variants.{Ok, Err}
+use Rattle.std.specs.declared.result.Result.the-variants.{Ok}
 use Rattle.std.proofs.shelf.Elements.{all-take, all-drop}
 use Rattle.std.proofs.shelf.Lists.{take-append-drop, length-take-le, append-nil, nil-from-length}
 use Rattle.std.proofs.shelf.Tests.{leb-true, ltb-true, eqb-true, and-parts}
-use Rattle.circuit.specs.Numbers.{digits, bits, binary, front}
+use Rattle.circuit.specs.Numbers.{digits, bits, binary}
 use Rattle.circuit.specs.Circuit.{Circuit, GoodGate, WellFormed, noGate, mostInputs, mostGates, mostOutputs}
-use Rattle.circuit.specs.Format.{Part, field, count, wire, gate, gateOf, checked, gateBytes, many, kind, head, outputs, assembled, ended, encode, parse}
-use Rattle.circuit.specs.Refusals.{Answer, numberOf, refuse, _and-then_}
+use Rattle.circuit.specs.Format.{Part, field, count, wire, gate, gateOf, checked, gateBytes, many, kind, head, outputs, assembled, encode, parse}
+use Rattle.circuit.specs.Refusals.{numberOf, refuse}
 use Rattle.circuit.specs.declared.gates.Gate.{Gate}
 use Rattle.circuit.specs.declared.reading.Head.{Head}
-use Rattle.circuit.specs.declared.refusals.Refusal.{Refusal}
 use Rattle.circuit.specs.declared.refusals.Refusal.the-variants.{Malformed, Count, NotMade, Table}
 use Rattle.circuit.proofs.AndThen.{then-ok, cond-ok}
 use Rattle.circuit.proofs.Numbers.{one-byte, digits-number, binary-bits, length-bits}

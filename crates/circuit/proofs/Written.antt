@@ -1,24 +1,21 @@
 -- What is written is read back: for each part, for many parts, for the whole. Assumes nothing.
 use mathlib.Core.Path.{_≡_, refl, sym, ap, _∙_}
-use mathlib.Core.Bool.{Bool, true, false, cond, _&&_}
+use mathlib.Core.Bool.{Bool, cond}
 use mathlib.Core.List.{List, [], _∷_, _++_, append-assoc}
-use Prim.Native.Nat.{ℕ, zero, suc, _+_, _<_, _≤_, _^_}
-use native.Mathlib.Numerals.{add-one}
+use Prim.Native.Nat.{ℕ, suc, _+_, _<_, _≤_, _^_}
 use native.Mathlib.Omega.{arith}
-use lib.Dec.{eqb, ltb, leb}
-use lib.ListN.{length, getD, take, drop}
+use lib.Dec.{ltb, leb}
+use lib.ListN.{length, getD}
 use Rattle.std.specs.Joined.{joined}
-use Rattle.std.specs.declared.result.Result.{Result}
-use Rattle.std.specs.declared.result.Result.the-variants.{Ok, Err}
+use Rattle.std.specs.declared.result.Result.the-variants.{Ok}
 use Rattle.std.proofs.shelf.Lists.{take-at, drop-at, append-nil, length-append}
-use Rattle.std.proofs.shelf.Tests.{le-leb, lt-ltb, eq-eqb, and-from, cond-true}
-use Rattle.circuit.specs.Numbers.{digits, bits, binary, front}
+use Rattle.std.proofs.shelf.Tests.{le-leb, lt-ltb}
+use Rattle.circuit.specs.Numbers.{digits, bits, binary}
 use Rattle.circuit.specs.Circuit.{Circuit, GoodGate, WellFormed, noGate, mostInputs, mostGates, mostOutputs}
-use Rattle.circuit.specs.Format.{Part, field, count, wire, gate, gateOf, checked, gateBytes, many, kind, head, outputs, assembled, ended, encode, parse}
-use Rattle.circuit.specs.Refusals.{refuse, _and-then_}
+use Rattle.circuit.specs.Format.{Part, field, count, wire, gate, checked, gateBytes, many, kind, head, outputs, encode, parse}
+use Rattle.circuit.specs.Refusals.{refuse}
 use Rattle.circuit.specs.declared.gates.Gate.{Gate}
 use Rattle.circuit.specs.declared.reading.Head.{Head}
-use Rattle.circuit.specs.declared.refusals.Refusal.{Refusal}
 use Rattle.circuit.specs.declared.refusals.Refusal.the-variants.{Count, NotMade}
 use Rattle.circuit.proofs.AndThen.{then-is}
 use Rattle.circuit.proofs.Values.{two-of}

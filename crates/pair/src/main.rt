@@ -1,7 +1,6 @@
 // Prints the coins that pair those of one input with those of another, or the first output in which the two differ.
 use circuit::Failure;
 use circuit::Refusal;
-use circuit::RefusalDisplay;
 use circuit::Sheet;
 use scheme::Pairing;
 use std::alloc::AllocError;
@@ -21,12 +20,13 @@ If FIRST and SECOND give one result, prints the coins with which an opener sees
 of SECOND what it sees of FIRST with COINS: a line of 0 and 1. Else prints the
 first output that differs, counted from 0: `output N differs`.
 
-What does not fit is refused with its number, on standard error, and status 1:
-  1  an unknown kind, or other than as many bytes as there should be
+What does not fit is refused: `refused: N` on standard error, and status 1.
+  1  an unknown kind; a text that is cut or has bytes left over; coins that are
+     not one 0 or 1 for each wire
   2  a count out of its range
   3  a wire that is not made yet
   4  a gate's byte above 15
-  7  other than as many values as inputs";
+  7  values that are not one byte 0 or 1 for each input";
 
 // Why there is nothing to print.
 #[derive(Drop)]
@@ -66,7 +66,10 @@ impl fmt::Display for Stop as StopDisplay {
                 f,
                 "usage: pair SHEET FIRST SECOND COINS (more by pair --help)"
             ),
-            Stop::Refused(refusal) => write!(f, "refused: {refusal}"),
+            Stop::Refused(refusal) => {
+                let number = refusal.number();
+                write!(f, "refused: {number}")
+            }
             Stop::Memory => write!(f, "pair: out of memory"),
             Stop::Unreadable(path, e) => write!(f, "pair: cannot read {path}: {e}"),
             Stop::Io(e) => write!(f, "pair: {e}"),
@@ -92,7 +95,7 @@ fn pair(rt: &LibcRuntime, sheet: &str, first: &str, second: &str, coins: &str) -
     let text = file(rt, second)?;
     let second = bits::read_values(heap, inputs, text.as_slice())?;
     let text = file(rt, coins)?;
-    let coins = bits::read_line(heap, inputs + sheet.gates.len(), text.as_slice())?;
+    let coins = bits::read_line(heap, sheet.wire_count(), text.as_slice())?;
     match scheme::pair(
         heap,
         &sheet,

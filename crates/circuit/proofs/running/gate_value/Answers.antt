@@ -1,6 +1,5 @@
 use mathlib.Core.Path.{ap, _∙_}
-use Rattle.circuit.specs.Circuit.{at, atAll}
-use Rattle.circuit.specs.Numbers.{binary}
+use Rattle.circuit.specs.Circuit.{at}
 use Rattle.circuit.proofs.Values.{two-of}
 use Rattle.circuit.proofs.running.gate_value.Needs as need
 
