@@ -85,7 +85,7 @@ fn other_than_as_many_values(rt: LibcRuntime) -> Result<(), Fail> {
     refuses_values(heap, &sheet, &[true, true, true])
 }
 
-// A chain of as many gates as a sheet may have, each exclusive or of the wire before it and wire 0.
+// A chain of as many gates as a sheet may have, each exclusive or of the wire before it and wire 0, and its end as as many outputs.
 fn chain(heap: Global) -> Result<Vec<u8>, AllocError> {
     let mut text = Vec::new(heap);
     text.extend_from_slice(b"\x01\0\x01\0\0\0\x01\0\0")?;
@@ -93,7 +93,10 @@ fn chain(heap: Global) -> Result<Vec<u8>, AllocError> {
         text.extend_from_slice(&i.to_be_bytes())?;
         text.extend_from_slice(b"\0\0\0\0\x06")?;
     }
-    text.extend_from_slice(b"\0\x01\0\x01\0\0")?;
+    text.extend_from_slice(b"\x04\0")?;
+    for _ in 0..1024 {
+        text.extend_from_slice(b"\0\x01\0\0")?;
+    }
     Ok(text)
 }
 
@@ -102,6 +105,6 @@ fn as_many_gates_as_may_be(rt: LibcRuntime) -> Result<(), Fail> {
     let heap = rt.alloc();
     let text = chain(heap)?;
     let sheet = Sheet::read(heap, text.as_slice())?;
-    gives(heap, &sheet, &[true], &[true])?;
+    gives(heap, &sheet, &[true], &[true; 1024])?;
     written(heap, &sheet, text.as_slice())
 }
