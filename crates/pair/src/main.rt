@@ -6,8 +6,9 @@ use scheme::Pairing;
 use std::alloc::AllocError;
 use std::env;
 use std::fmt;
-use std::fs;
+use std::fs::File;
 use std::io;
+use std::io::Read;
 
 const HELP: &str = "usage: pair SHEET FIRST SECOND COINS
 
@@ -16,9 +17,10 @@ const HELP: &str = "usage: pair SHEET FIRST SECOND COINS
   SECOND   other values of all inputs
   COINS    a line of 0 and 1: a coin for each wire
 
-If FIRST and SECOND give one result, prints the coins with which an opener sees
-of SECOND what it sees of FIRST with COINS: a line of 0 and 1. Else prints the
-first output that differs, counted from 0: `output N differs`.
+If FIRST and SECOND give one result, prints the coins under which every wire
+has, for SECOND, the colour that it has for FIRST under COINS: a line of 0 and
+1. Else prints the first output that differs, counted from 0: `output N
+differs`.
 
 What does not fit is refused: `refused: N` on standard error, and status 1.
   1  an unknown kind; a text that is cut or has bytes left over; coins that are
@@ -77,8 +79,19 @@ impl fmt::Display for Stop as StopDisplay {
     }
 }
 
+// No file that fits is longer, and one that is longer is refused whatever its rest has.
+const MOST_BYTES: u64 = 1_048_576;
+
+// The start of a file, which need not end.
+fn start_of(rt: &LibcRuntime, path: &str) -> io::Result<Vec<u8>> {
+    let file = File::open(rt, path)?;
+    let mut bytes = Vec::new(rt.alloc());
+    file.take(MOST_BYTES).read_to_end(&mut bytes)?;
+    Ok(bytes)
+}
+
 fn file(rt: &LibcRuntime, path: &str) -> Result<Vec<u8>, Stop> {
-    match fs::read(rt, path) {
+    match start_of(rt, path) {
         Ok(bytes) => Ok(bytes),
         Err(e) => Err(Stop::Unreadable(String::from_str(rt.alloc(), path)?, e)),
     }

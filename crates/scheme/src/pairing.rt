@@ -86,8 +86,8 @@ fn pair_fitting(
     }
 }
 
-// The coins under which an opener sees of the second input what it sees of the first under these, or the first output in which
-// the two differ.
+// The coins under which every wire has, for the second input, the colour that it has for the first under these, or the first
+// output in which the two differ.
 pub fn pair(
     heap: Global,
     sheet: &Sheet,
