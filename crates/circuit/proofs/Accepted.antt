@@ -21,7 +21,7 @@ use Rattle.circuit.specs.Refusals.{numberOf, refuse}
 use Rattle.circuit.specs.declared.gates.Gate.{Gate}
 use Rattle.circuit.specs.declared.reading.Head.{Head}
 use Rattle.circuit.specs.declared.refusals.Refusal.the-variants.{Malformed, Count, NotMade, Table}
-use Rattle.circuit.proofs.AndThen.{then-ok, cond-ok}
+use Rattle.circuit.proofs.AndThen.{no-answer, then-ok, cond-ok}
 use Rattle.circuit.proofs.Numbers.{one-byte, digits-number, binary-bits, length-bits}
 
 after : {A : Type 0} {t x y : List A} (a : List A) → t ≡ a ++ x → x ≡ y → t ≡ a ++ y
@@ -43,7 +43,7 @@ field-from n text p under e = go (leb n (length text)) refl e
           rw (value, rest, bytes) (sym (take-append-drop n text)),
           rw rest (all-drop (λ d. d < 256) n text under),
         )
-    go false short e = absurd (let z : _≡_ {A = ℕ} 0 1 = cc in omega arith)
+    go false short e = no-answer e
 
 count-from : (n most : ℕ) (text : List ℕ) (p : ℕ × List ℕ) → Under 256 text → count n most text ≡ Ok p → From (digits 256 n) text p × (p .0 ≤ most)
 count-from n most text p under e =

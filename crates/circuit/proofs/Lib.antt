@@ -1,5 +1,6 @@
 mod Numbers
 mod AndThen
+mod Places
 pub mod Values
 pub mod Many
 mod Accepted

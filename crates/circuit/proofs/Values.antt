@@ -9,6 +9,7 @@ use Rattle.std.proofs.shelf.Lists.{append-nil, drop-more, drop-all, getD-append
 use Rattle.circuit.specs.Circuit.{Circuit, GoodGate, GoodGates, WellFormed, at, atAll, gateValue, extended, values, noGate, Assignment, OneAssignment}
 use Rattle.circuit.specs.Numbers.{binary}
 use Rattle.circuit.specs.declared.gates.Gate.{Gate}
+use Rattle.circuit.proofs.Places.{first-place, later-places}
 
 pub two-of : (ws : List ℕ) → length ws ≡ 2 → ws ≡ getD ws 0 0 ∷ getD ws 1 0 ∷ []
 two-of [] e = absurd (omega arith)
@@ -51,12 +52,6 @@ known-enough g vs ws good =
     both : atAll (vs ++ ws) (getD (g .wires) 0 0 ∷ getD (g .wires) 1 0 ∷ []) ≡ atAll vs (getD (g .wires) 0 0 ∷ getD (g .wires) 1 0 ∷ [])
     both = rw (getD-append-left vs ws false (getD (g .wires) 0 0) (good .1), getD-append-left vs ws false (getD (g .wires) 1 0) (good .2))
 
-later : (n m : ℕ) (g : Gate) (gs : List Gate) → m ≡ n + 1 → GoodGates n (g ∷ gs) → GoodGates m gs
-later n m g gs next good k below = let same : m + k ≡ n + suc k = omega arith in rw same (good (suc k) (omega arith))
-
-first-good : (n : ℕ) (g : Gate) (gs : List Gate) → GoodGates n (g ∷ gs) → GoodGate n g
-first-good n g gs good = let same : n + 0 ≡ n = omega arith in rw same at (good 0 (omega arith))
-
 gate-agrees : (gs : List Gate) (vs : List Bool) → GoodGates (length vs) gs → (k : ℕ) → k < length gs →
     at (extended gs vs) (length vs + k) ≡ gateValue (getD gs k noGate) (extended gs vs)
 unfolding extended
@@ -67,12 +62,12 @@ gate-agrees (g ∷ gs) vs good zero below =
     let more = grown gs (vs ++ (x ∷ [])) in
     let same : length vs + 0 ≡ length vs = omega arith in
     let here : at (extended gs (vs ++ (x ∷ []))) (length vs) ≡ x = rw (more .1, append-assoc vs (x ∷ []) (more .0)) (getD-at vs x (more .0) false (length vs) refl) in
-    rw same (here ∙ sym (rw (all .1) (known-enough g vs (all .0) (first-good (length vs) g gs good))))
+    rw same (here ∙ sym (rw (all .1) (known-enough g vs (all .0) (first-place GoodGate (length vs) g gs noGate good))))
 gate-agrees (g ∷ gs) vs good (suc k) below =
     let x = gateValue g vs in
     let longer = length-push vs x in
     let place : length vs + suc k ≡ length (vs ++ (x ∷ [])) + k = omega (arith, longer) in
-    rw place (gate-agrees gs (vs ++ (x ∷ [])) (later (length vs) (length (vs ++ (x ∷ []))) g gs longer good) k (omega arith))
+    rw place (gate-agrees gs (vs ++ (x ∷ [])) (later-places GoodGate (length vs) g gs noGate good (length (vs ++ (x ∷ []))) longer) k (omega arith))
 
 only-values : (gs : List Gate) (known vs : List Bool) → GoodGates (length known) gs → length vs ≡ length known + length gs → take (length known) vs ≡ known →
     ((k : ℕ) → k < length gs → at vs (length known + k) ≡ gateValue (getD gs k noGate) vs) → vs ≡ extended gs known
@@ -84,9 +79,9 @@ only-values (g ∷ gs) known vs good all start agrees =
     let longer = length-push known x in
     let split : vs ≡ known ++ drop n vs = sym (take-append-drop n vs) ∙ rw start in
     let same : n + 0 ≡ n = omega arith in
-    let here : at vs n ≡ x = (rw same at (agrees 0 (omega arith))) ∙ ap (gateValue g) split ∙ known-enough g known (drop n vs) (first-good n g gs good) in
+    let here : at vs n ≡ x = (rw same at (agrees 0 (omega arith))) ∙ ap (gateValue g) split ∙ known-enough g known (drop n vs) (first-place GoodGate n g gs noGate good) in
     let further : take (length (known ++ (x ∷ []))) vs ≡ known ++ (x ∷ []) = rw longer (take-more vs n false (omega arith) ∙ rw (start, here)) in
-    only-values gs (known ++ (x ∷ [])) vs (later n (length (known ++ (x ∷ []))) g gs longer good) (omega (arith, longer)) further
+    only-values gs (known ++ (x ∷ [])) vs (later-places GoodGate n g gs noGate good (length (known ++ (x ∷ []))) longer) (omega (arith, longer)) further
     (λ k below. let place : length (known ++ (x ∷ [])) + k ≡ n + suc k = omega (arith, longer) in rw place (agrees (suc k) (omega arith)))
 
 pub assigned : (c : Circuit) (xs : List Bool) → WellFormed c → length xs ≡ c .inputs → Assignment c xs (values c xs)

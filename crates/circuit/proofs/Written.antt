@@ -18,6 +18,7 @@ use Rattle.circuit.specs.declared.gates.Gate.{Gate}
 use Rattle.circuit.specs.declared.reading.Head.{Head}
 use Rattle.circuit.specs.declared.refusals.Refusal.the-variants.{Count, NotMade}
 use Rattle.circuit.proofs.AndThen.{then-is}
+use Rattle.circuit.proofs.Places.{first-place, later-places}
 use Rattle.circuit.proofs.Values.{two-of}
 use Rattle.circuit.proofs.Numbers.{one-byte, length-digits, number-digits, bits-binary, binary-lt}
 
@@ -62,9 +63,8 @@ module _ {X : Type 0} (one : ℕ → List ℕ → Part X) (write : X → List �
   unfolding many
   many-back [] k rest room good = refl
   many-back (x ∷ xs) k rest room good =
-      let here : Good k x = (let same : k + 0 ≡ k = omega arith in rw same at (good 0 (omega arith))) in
-      let later : (j : ℕ) → j < length xs → Good (k + 1 + j) (getD xs j d) = λ j below. (let same : k + suc j ≡ k + 1 + j = omega arith in rw same at (good (suc j) (omega arith))) in
-      rw (append-assoc (write x) (joined write xs) rest, step k x (joined write xs ++ rest) (omega arith) here) (then-is _ (many-back xs (k + 1) rest (omega arith) later))
+      rw (append-assoc (write x) (joined write xs) rest, step k x (joined write xs ++ rest) (omega arith) (first-place Good k x xs d good))
+      (then-is _ (many-back xs (k + 1) rest (omega arith) (later-places Good k x xs d good (k + 1) refl)))
 
 kind-back : (rest : List ℕ) → kind 1 (1 ∷ rest) ≡ Ok rest
 kind-back rest = rw (le-leb 1 (suc (length rest)) (omega arith))

@@ -8,6 +8,7 @@ use lib.ListN.{length, getD, drop}
 use Rattle.std.specs.declared.option.Option.{Option}
 use Rattle.std.specs.declared.option.Option.the-variants.{Some, None}
 use Rattle.std.proofs.shelf.Lists.{drop-more, drop-all}
+use Rattle.std.proofs.shelf.Tests.{true≢false}
 use Rattle.circuit.specs.Circuit.{at, atAll}
 use Rattle.scheme.specs.Coins.{_⊕_, firstDifference, Differs}
 use Rattle.scheme.proofs.Colours.{xor-same, same-from-xor}
@@ -56,7 +57,7 @@ difference k m (x ∷ r) (y ∷ s) e = go (x ⊕ y) refl e (difference (k + 1) m
           omega arith,
           record {
             within = omega arith;
-            here = λ e. (let z : true ≡ false = sym is ∙ ap (λ b. b ⊕ y) e ∙ xor-same y in let n : _≡_ {A = ℕ} 0 1 = cc in omega arith);
+            here = λ e. true≢false (sym is ∙ ap (λ b. b ⊕ y) e ∙ xor-same y);
             before = λ j below. absurd (omega arith);
           },
         )
