@@ -1,4 +1,4 @@
--- Exclusive or: with the same bit, twice with the same bit, and as the code has it. Assumes nothing.
+-- Exclusive or: its laws, and as the code has it. Assumes nothing.
 use mathlib.Core.Path.{_≡_, refl}
 use mathlib.Core.Bool.{Bool, true, false, not, Bool·beq}
 use Rattle.scheme.specs.Coins.{_⊕_}
@@ -8,6 +8,22 @@ xor-twice true true = refl
 xor-twice true false = refl
 xor-twice false true = refl
 xor-twice false false = refl
+
+pub xor-comm : (a b : Bool) → a ⊕ b ≡ b ⊕ a
+xor-comm true true = refl
+xor-comm true false = refl
+xor-comm false true = refl
+xor-comm false false = refl
+
+pub xor-assoc : (a b c : Bool) → a ⊕ b ⊕ c ≡ a ⊕ (b ⊕ c)
+xor-assoc false b c = refl
+xor-assoc true false c = refl
+xor-assoc true true true = refl
+xor-assoc true true false = refl
+
+pub xor-false : (x : Bool) → x ⊕ false ≡ x
+xor-false true = refl
+xor-false false = refl
 
 pub xor-same : (x : Bool) → x ⊕ x ≡ false
 xor-same true = refl

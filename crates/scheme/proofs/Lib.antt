@@ -1,3 +1,4 @@
 mod Colours
+pub mod Marked
 mod Differences
 mod Pairs

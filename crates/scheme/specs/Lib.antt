@@ -1,2 +1,4 @@
 pub mod Coins
+pub mod Terms
+pub mod Marking
 pub mod Outcome
