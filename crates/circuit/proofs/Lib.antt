@@ -1,4 +1,4 @@
-mod Numbers
+pub mod Numbers
 mod AndThen
 mod Places
 pub mod Values

@@ -25,6 +25,11 @@ pub xor-false : (x : Bool) → x ⊕ false ≡ x
 xor-false true = refl
 xor-false false = refl
 
+pub xor-back : (c v : Bool) → c ⊕ (c ⊕ v) ≡ v
+xor-back true true = refl
+xor-back true false = refl
+xor-back false v = refl
+
 pub xor-same : (x : Bool) → x ⊕ x ≡ false
 xor-same true = refl
 xor-same false = refl

@@ -8,15 +8,15 @@ use lib.ListN.{length, getD}
 use Rattle.std.specs.declared.option.Option.the-variants.{Some, None}
 use Rattle.std.specs.declared.result.Result.the-variants.{Ok}
 use Rattle.std.proofs.shelf.Counted.{length-map-counting, getD-map-counting}
-use Rattle.std.proofs.shelf.Lists.{ext-getD, getD-map, getD-take, length-map}
+use Rattle.std.proofs.shelf.Lists.{ext-getD, getD-map, length-map}
 use Rattle.std.proofs.shelf.Tests.{eq-eqb}
 use Rattle.circuit.specs.Circuit.{Circuit, WellFormed, wireCount, at, atAll, values, result}
 use Rattle.circuit.specs.Meaning.{valuesFor}
-use Rattle.circuit.proofs.Values.{assigned}
 use Rattle.scheme.specs.Coins.{_⊕_, activeColour, pairedCoins, Paired, firstDifference, Differs}
 use Rattle.scheme.specs.Outcome.{paired, differ, byDifference, pairing, SameResult}
 use Rattle.scheme.proofs.Colours.{xor-twice}
 use Rattle.scheme.proofs.Differences.{no-difference, difference}
+use Rattle.scheme.proofs.Rows.{input-value}
 
 pub values-are : (c : Circuit) (xs known : List Bool) → length xs ≡ c .inputs → valuesFor c xs ≡ Ok known → known ≡ values c xs
 values-are c xs known fit is = let same = rw (eq-eqb (length xs) (c .inputs) fit) at is in cc
@@ -43,10 +43,6 @@ keeps-coins : (c : Circuit) (xs ys coins : List Bool) (w : ℕ) → w < length c
 keeps-coins c xs ys coins w below same =
     paired-at c xs ys coins w below ∙ ap (λ b. activeColour c xs coins w ⊕ b) (sym same) ∙ xor-twice (at coins w) (at (values c xs) w)
 
--- the inputs come first among the values
-first-values : (c : Circuit) (xs : List Bool) → WellFormed c → length xs ≡ c .inputs → (w : ℕ) → w < c .inputs → at (values c xs) w ≡ at xs w
-first-values c xs good fit w below = sym (getD-take (c .inputs) (values c xs) w false below) ∙ ap (λ vs. at vs w) (assigned c xs good fit .inputs)
-
 -- wires with the same values keep their coins
 kept-all : (c : Circuit) (xs ys coins : List Bool) (ws : List ℕ) → ((k : ℕ) → k < length ws → getD ws k 0 < length coins) →
     atAll (values c xs) ws ≡ atAll (values c ys) ws → atAll (pairedCoins c xs ys coins) ws ≡ atAll coins ws
@@ -68,7 +64,7 @@ module _ (c : Circuit) (xs ys coins : List Bool) (good : WellFormed c) (xs-fit :
         back = pairs-back c xs ys coins;
         kept = λ w below same. keeps-coins c xs ys coins w (omega arith) same;
         inputs = λ w below same. keeps-coins c xs ys coins w (omega arith)
-            (first-values c xs good xs-fit w below ∙ same ∙ sym (first-values c ys good ys-fit w below));
+            (input-value c good xs xs-fit w below ∙ same ∙ sym (input-value c good ys ys-fit w below));
       }
 
   by-result : pairing c xs ys coins ≡ Ok (byDifference (firstDifference 0 (result c xs) (result c ys)) (pairedCoins c xs ys coins))

@@ -1,4 +1,9 @@
 pub mod Coins
 pub mod Terms
 pub mod Marking
+pub mod Garbling
+pub mod Yao
+pub mod Opening
+pub mod Promises
+pub mod NearMisses
 pub mod Outcome

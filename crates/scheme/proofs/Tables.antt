@@ -1,0 +1,65 @@
+-- Lists made place by place: what holds at each place holds side by side, and what stands at a place is a member. Assumes nothing.
+use mathlib.Core.Bool.{Bool}
+use mathlib.Core.List.{List, [], _∷_, _++_, map, flatten, Forall₂, Forall₂·nil, Forall₂·cons, List·Memᴰ, List·Memᴰ·head, List·Memᴰ·tail, Memᴰ·append-left, Memᴰ·append-right}
+use mathlib.Core.Path.{_≡_, refl, sym, ap, subst}
+use Prim.Native.Nat.{ℕ, zero, suc, _+_, _^_, _<_}
+use native.Mathlib.Nat.{add-zero}
+use native.Mathlib.Omega.{arith}
+use lib.ListN.{length, getD}
+use Rattle.std.specs.Iters.{counting}
+use Rattle.circuit.specs.Circuit.{Circuit}
+use Rattle.scheme.specs.Garbling.{Row, tabulate}
+use Rattle.scheme.specs.Yao.{gateAt, Order, Tweak, rowAt, tablesBy}
+
+module _ {X Y : Type 0} (R : X → Y → Type 0) (f : ℕ → X) (g : ℕ → Y) where
+  counted-beside : (a n : ℕ) → ((i : ℕ) → i < n → R (f (a + i)) (g (a + i))) → Forall₂ R (map f (counting a n)) (map g (counting a n))
+  counted-beside a zero h = Forall₂·nil
+  counted-beside a (suc n) h =
+      Forall₂·cons (rw (add-zero a) at (h 0 (omega arith)))
+      (counted-beside (a + 1) n (λ i below. let e : a + suc i ≡ a + 1 + i = omega arith in rw e at (h (suc i) (omega arith))))
+
+  pub tabulate-beside : (n : ℕ) → ((i : ℕ) → i < n → R (f i) (g i)) → Forall₂ R (tabulate n f) (tabulate n g)
+  tabulate-beside n h = counted-beside 0 n (λ i below. let e : 0 + i ≡ i = omega arith in rw e (h i below))
+
+-- the tables of two runs, row by row
+pub tables-beside : (R : Row → Row → Type 0) (order : Order) (tweak : Tweak) (c : Circuit) (coin other : ℕ → Bool) →
+    ((k : ℕ) → k < length (c .gates) → (p : ℕ) → p < 2 ^ length (gateAt c k .wires) → R (rowAt order tweak c coin k p) (rowAt order tweak c other k p)) →
+    Forall₂ (Forall₂ R) (tablesBy order tweak c coin) (tablesBy order tweak c other)
+tables-beside R order tweak c coin other h =
+    tabulate-beside (Forall₂ R) (λ k. tabulate (rows k) (rowAt order tweak c coin k)) (λ k. tabulate (rows k) (rowAt order tweak c other k)) (length (c .gates))
+    (λ k below. tabulate-beside R (rowAt order tweak c coin k) (rowAt order tweak c other k) (rows k) (h k below))
+  where
+    rows : ℕ → ℕ
+    rows k = 2 ^ length (gateAt c k .wires)
+
+-- with a function on each side, or on the second alone
+module _ {X Y Z W : Type 0} (R : Z → W → Type 0) (f : X → Z) (g : Y → W) where
+  pub map-beside : {xs : List X} {ys : List Y} → Forall₂ (λ x y. R (f x) (g y)) xs ys → Forall₂ R (map f xs) (map g ys)
+  map-beside Forall₂·nil = Forall₂·nil
+  map-beside (Forall₂·cons h t) = Forall₂·cons h (map-beside t)
+
+  pub map-map-beside : {xss : List (List X)} {yss : List (List Y)} → Forall₂ (Forall₂ (λ x y. R (f x) (g y))) xss yss → Forall₂ (Forall₂ R) (map (map f) xss) (map (map g) yss)
+  map-map-beside Forall₂·nil = Forall₂·nil
+  map-map-beside (Forall₂·cons h t) = Forall₂·cons (map-beside h) (map-map-beside t)
+
+pub beside-map : {X Y Z : Type 0} (R : X → Z → Type 0) (g : Y → Z) {xs : List X} {ys : List Y} → Forall₂ (λ x y. R x (g y)) xs ys → Forall₂ R xs (map g ys)
+beside-map R g Forall₂·nil = Forall₂·nil
+beside-map R g (Forall₂·cons h t) = Forall₂·cons h (beside-map R g t)
+
+pub weaker-beside : {X Y : Type 0} (P R : X → Y → Type 0) → ((x : X) (y : Y) → P x y → R x y) → {xs : List X} {ys : List Y} → Forall₂ P xs ys → Forall₂ R xs ys
+weaker-beside P R f Forall₂·nil = Forall₂·nil
+weaker-beside P R f (Forall₂·cons {a = x} {b = y} h t) = Forall₂·cons (f x y h) (weaker-beside P R f t)
+
+-- members
+counted-member : {X : Type 0} (f : ℕ → X) (a n i : ℕ) → i < n → List·Memᴰ (f (a + i)) (map f (counting a n))
+counted-member f a zero i below = absurd (omega arith)
+counted-member f a (suc n) zero below = List·Memᴰ·head (ap f (add-zero a))
+counted-member f a (suc n) (suc i) below = let e : a + suc i ≡ a + 1 + i = omega arith in rw e (List·Memᴰ·tail (counted-member f (a + 1) n i (omega arith)))
+
+pub tabulate-member : {X : Type 0} (f : ℕ → X) (n i : ℕ) → i < n → List·Memᴰ (f i) (tabulate n f)
+tabulate-member f n i below = let e : 0 + i ≡ i = omega arith in rw e at (counted-member f 0 n i below)
+
+pub flatten-member : {X : Type 0} {x : X} {xs : List X} {xss : List (List X)} → List·Memᴰ x xs → List·Memᴰ xs xss → List·Memᴰ x (flatten xss)
+unfolding flatten
+flatten-member {x = x} {xs = xs} m (List·Memᴰ·head {x = ys} {xs = yss} e) = Memᴰ·append-left (flatten yss) (subst (λ zs. List·Memᴰ x zs) e m)
+flatten-member m (List·Memᴰ·tail {x = ys} n) = Memᴰ·append-right ys (flatten-member m n)

@@ -1,0 +1,91 @@
+-- What a garbling scheme promises: opening is right, of each wire one key can be derived, what is seen is what can be derived, and inputs with one result are
+-- not told apart. Assumes nothing.
+use mathlib.Core.Bool.{Bool}
+use mathlib.Core.List.{List, map, flatten, Forall₂, List·Memᴰ}
+use mathlib.Core.Logic.{_↔_, _⊎_}
+use mathlib.Core.Path.{_≡_}
+use Prim.Native.Nat.{ℕ, _<_}
+use lib.ListN.{length}
+use Rattle.std.specs.shelf.Lists.{All}
+use Rattle.circuit.specs.Circuit.{Circuit, WellFormed, wireCount, at, result}
+use Rattle.scheme.specs.Garbling.{Label, Row, Scheme, blocks, Seen, opened, closed, View, sent, active, view}
+use Rattle.scheme.specs.Opening.{Drawn, value, colourOf, evaluate}
+use Rattle.scheme.specs.Terms.{Sort, Term, _≈_, Derives, StaticallyEquivalent}
+
+-- equal terms are equal bytes, whatever is drawn and whatever the hash
+abbrev pub Sound : Type 0 → Type 0
+Sound A = (d : Drawn A) (s : Sort) (t u : Term A s) → t ≈ u → value d t ≡ value d u
+
+module _ {A : Type 0} (S : Scheme A) where
+  -- a circuit, a value for each input, and as many coins as the scheme draws
+  pub record Fits (c : Circuit) (xs coins : List Bool) : Type 0 where
+    pub well-formed : WellFormed c
+    pub inputs : length xs ≡ c .inputs
+    pub drawn : length coins ≡ S .coins c
+
+  -- keys whose last bit is their colour
+  abbrev pub Coloured : Circuit → List Bool → Drawn A → Type 0
+  Coloured c coins d = (k : Label) → colourOf (value d (S .key c coins k)) ≡ k .colour
+
+  -- 1. Right: for all coins, keys and hashes the opening of what is sent gives the circuit's result.
+  abbrev pub Right : Type 0
+  Right =
+      (c : Circuit) (xs coins : List Bool) → Fits c xs coins → (d : Drawn A) → Coloured c coins d →
+      evaluate (d .hash) c (map (λ t. value d t) (sent S c xs coins .keys)) (map (map (λ t. value d t)) (sent S c xs coins .tables)) (sent S c xs coins .meanings)
+      ≡ result c xs
+
+  -- a key can be derived from what is sent
+  abbrev pub Known : Circuit → List Bool → List Bool → Label → Type 0
+  Known c xs coins k = Derives (blocks (sent S c xs coins)) (S .key c coins k)
+
+  -- 2. One key: the keys that can be derived are, of each wire of the circuit, that of its value, and no other.
+  abbrev pub OneKey : Type 0
+  OneKey =
+      (c : Circuit) (xs coins : List Bool) → Fits c xs coins → (k : Label) →
+      Known c xs coins k ↔ ((k .wire < wireCount c) × (k .colour ≡ active S c xs coins (k .wire) .colour))
+
+  -- a row is seen open, with the key in it, where all its keys can be derived, and closed where they cannot
+  pub data SeenAs (c : Circuit) (xs coins : List Bool) (r : Row) : Seen → Type 0 where
+    as-open : All (Known c xs coins) (r .keys) → SeenAs c xs coins r (opened (r .holds))
+    as-closed : (All (Known c xs coins) (r .keys) → ⊥) → SeenAs c xs coins r closed
+
+  -- a key stands in a view: it is an input's, or is in an open row
+  abbrev pub Shows : View → Label → Type 0
+  Shows v k = List·Memᴰ k (v .keys) ⊎ List·Memᴰ (opened k) (flatten (v .rows))
+
+  -- 3. Seen by derivation: of each row what can be derived decides what is seen of it, and the keys seen are those that can be derived.
+  pub record Sees (c : Circuit) (xs coins : List Bool) : Type 0 where
+    pub rows : Forall₂ (Forall₂ (SeenAs c xs coins)) (S .tables c coins) (view S c xs coins .rows)
+    pub keys : (k : Label) → Shows (view S c xs coins) k ↔ Known c xs coins k
+
+  abbrev pub SeenByDerivation : Type 0
+  SeenByDerivation = (c : Circuit) (xs coins : List Bool) → Fits c xs coins → Sees c xs coins
+
+  -- what an opener gets of one run is not told apart from what it gets of another
+  pub record Alike (c : Circuit) (xs coins ys paired : List Bool) : Type 0 where
+    pub view : view S c xs coins ≡ view S c ys paired
+    pub transcripts : StaticallyEquivalent (blocks (sent S c xs coins)) (blocks (sent S c ys paired))
+    pub meanings : sent S c xs coins .meanings ≡ sent S c ys paired .meanings
+
+  -- the coins for one input and those for another paired one to one, with none left out
+  pub record Matched (c : Circuit) (xs ys : List Bool) : Type 0 where
+    pub there : List Bool → List Bool
+    pub back : List Bool → List Bool
+    pub there-fits : (coins : List Bool) → length coins ≡ S .coins c → length (there coins) ≡ S .coins c
+    pub back-fits : (coins : List Bool) → length coins ≡ S .coins c → length (back coins) ≡ S .coins c
+    pub back-there : (coins : List Bool) → length coins ≡ S .coins c → back (there coins) ≡ coins
+    pub there-back : (coins : List Bool) → length coins ≡ S .coins c → there (back coins) ≡ coins
+    pub alike : (coins : List Bool) → length coins ≡ S .coins c → Alike c xs coins ys (there coins)
+    -- an input that is the same keeps its coin: so do all of the opener's own, whose values it knows
+    pub own : (coins : List Bool) → length coins ≡ S .coins c → (w : ℕ) → w < c .inputs → at xs w ≡ at ys w → at (there coins) w ≡ at coins w
+
+  -- 4. Nothing but the result: inputs with one result are not told apart, by as many coins of the one as of the other.
+  abbrev pub HidesInputs : Type 0
+  HidesInputs =
+      (c : Circuit) (xs ys : List Bool) → WellFormed c → length xs ≡ c .inputs → length ys ≡ c .inputs → result c xs ≡ result c ys → Matched c xs ys
+
+  pub record Secure : Type 0 where
+    pub right : Right
+    pub one-key : OneKey
+    pub seen : SeenByDerivation
+    pub hides : HidesInputs
