@@ -20,6 +20,7 @@ use Rattle.scheme.specs.Marking.{Marking, tweakOf, marked, exchanged, Simulate
 use Rattle.scheme.specs.Terms.{block, text, Term, secret, xor, pad, tweak, _then_, same, flip, chain, regroup, swap, unit, twice, in-xor, _≈_}
 use Rattle.scheme.specs.Yao.{rowFor, gateAt, rowAt, byColour, numbered, yaoBy}
 use Rattle.scheme.proofs.Colours.{xor-same, same-from-xor}
+use Rattle.scheme.proofs.Derived.{equals}
 use Rattle.scheme.proofs.Rows.{gate-wires, coloursOf, active-row, active-colours, colours-from-active, keys-below, input-value}
 use Rattle.scheme.proofs.Tables.{tabulate-beside, tables-beside, map-map-beside}
 
@@ -27,9 +28,6 @@ tweak-of-text : {A : Type 0} (ks : List (Term A block)) (ns : List ℕ) → twea
 unfolding tweakOf
 tweak-of-text [] ns = refl
 tweak-of-text (k ∷ ks) ns = tweak-of-text ks ns
-
-equals : {A : Type 0} {t u : Term A block} → t ≡ u → t ≈ u
-equals e = rw e same
 
 -- added twice is gone
 gone : {A : Type 0} (t u : Term A block) → xor t (xor t u) ≈ u
@@ -146,7 +144,7 @@ module _ (coin : List Bool → ℕ → Bool) (decoded : Circuit → List ℕ) (c
   keys-exchanged f (k ∷ ks) ns = ap (λ t. secret k then t) (keys-exchanged f ks ns)
 
   -- the block that stands for the pad of a closed row: with the key in it, it makes the other run's row
-  abbrev exchange : List ℕ → Term Label block
+  abbrev pub exchange : List ℕ → Term Label block
   exchange ns = xor (secret (rowNamed coin decoded c coins ns .holds)) (cipher (coloured coin decoded) c others (rowNamed coin decoded c others ns))
 
   abbrev Becomes : Term Label block → Term Label block → Type 0

@@ -1,7 +1,8 @@
 -- Lists made place by place: what holds at each place holds side by side, and what stands at a place is a member. Assumes nothing.
 use mathlib.Core.Bool.{Bool}
-use mathlib.Core.List.{List, [], _∷_, _++_, map, flatten, Forall₂, Forall₂·nil, Forall₂·cons, List·Memᴰ, List·Memᴰ·head, List·Memᴰ·tail, Memᴰ·append-left, Memᴰ·append-right}
-use mathlib.Core.Path.{_≡_, refl, sym, ap, subst}
+use mathlib.Core.List.{List, [], _∷_, _++_, map, flatten, Forall₂, Forall₂·nil, Forall₂·cons, List·Memᴰ, List·Memᴰ·head, List·Memᴰ·tail, List·Memᴰ·not-nil, List·Memᴰ·cases-cons, Memᴰ·append-left, Memᴰ·append-right}
+use mathlib.Core.Logic.{_⊎_, inl, inr}
+use mathlib.Core.Path.{_≡_, sym, ap, subst}
 use Prim.Native.Nat.{ℕ, zero, suc, _+_, _^_, _<_}
 use native.Mathlib.Nat.{add-zero}
 use native.Mathlib.Omega.{arith}
@@ -42,15 +43,24 @@ module _ {X Y Z W : Type 0} (R : Z → W → Type 0) (f : X → Z) (g : Y → W)
   map-map-beside Forall₂·nil = Forall₂·nil
   map-map-beside (Forall₂·cons h t) = Forall₂·cons (map-beside h) (map-map-beside t)
 
-pub beside-map : {X Y Z : Type 0} (R : X → Z → Type 0) (g : Y → Z) {xs : List X} {ys : List Y} → Forall₂ (λ x y. R x (g y)) xs ys → Forall₂ R xs (map g ys)
-beside-map R g Forall₂·nil = Forall₂·nil
-beside-map R g (Forall₂·cons h t) = Forall₂·cons h (beside-map R g t)
+module _ {X Y Z : Type 0} (R : X → Z → Type 0) (g : Y → Z) where
+  beside-map : {xs : List X} {ys : List Y} → Forall₂ (λ x y. R x (g y)) xs ys → Forall₂ R xs (map g ys)
+  beside-map Forall₂·nil = Forall₂·nil
+  beside-map (Forall₂·cons h t) = Forall₂·cons h (beside-map t)
 
-pub weaker-beside : {X Y : Type 0} (P R : X → Y → Type 0) → ((x : X) (y : Y) → P x y → R x y) → {xs : List X} {ys : List Y} → Forall₂ P xs ys → Forall₂ R xs ys
-weaker-beside P R f Forall₂·nil = Forall₂·nil
-weaker-beside P R f (Forall₂·cons {a = x} {b = y} h t) = Forall₂·cons (f x y h) (weaker-beside P R f t)
+  pub beside-map-map : {xss : List (List X)} {yss : List (List Y)} → Forall₂ (Forall₂ (λ x y. R x (g y))) xss yss → Forall₂ (Forall₂ R) xss (map (map g) yss)
+  beside-map-map Forall₂·nil = Forall₂·nil
+  beside-map-map (Forall₂·cons h t) = Forall₂·cons (beside-map h) (beside-map-map t)
 
 -- members
+pub member-beside : {X Y : Type 0} (P : Y → Type 0) {xs : List X} {ys : List Y} {y : Y} → Forall₂ (λ x y. P y) xs ys → List·Memᴰ y ys → P y
+member-beside P Forall₂·nil m = absurd (List·Memᴰ·not-nil m)
+member-beside P {y = y} (Forall₂·cons {b = z} {l₂ = ys} h t) m = go (List·Memᴰ·cases-cons m) (λ n. member-beside P t n)
+  where
+    go : (y ≡ z) ⊎ List·Memᴰ y ys → (List·Memᴰ y ys → P y) → P y
+    go (inl e) rest = subst P (sym e) h
+    go (inr n) rest = rest n
+
 counted-member : {X : Type 0} (f : ℕ → X) (a n i : ℕ) → i < n → List·Memᴰ (f (a + i)) (map f (counting a n))
 counted-member f a zero i below = absurd (omega arith)
 counted-member f a (suc n) zero below = List·Memᴰ·head (ap f (add-zero a))

@@ -1,6 +1,6 @@
 -- Bytes as terms: what is drawn, what everyone knows, exclusive or and hash; when two terms are the same bytes; all that can be derived from some of
 -- them; and when nobody tells two lists of them apart. Assumes nothing.
-use mathlib.Core.List.{List}
+use mathlib.Core.List.{List, List·Memᴰ}
 use mathlib.Core.Logic.{_↔_}
 use mathlib.Core.Path.{_≡_}
 use Prim.Native.Nat.{ℕ}
@@ -60,6 +60,16 @@ run have m = substitute (λ i. getD have i (public 0)) m
 -- deduction: what some recipe gives
 abbrev pub Derives : {A : Type 0} {s : Sort} → List (Term A block) → Term A s → Type 0
 Derives {s = s} have t = (m : Recipe s) × (run have m ≈ t)
+
+-- which is closed under everything that can be done
+pub record Deduction {A : Type 0} (have : List (Term A block)) : Type 0 where
+  pub has : (t : Term A block) → List·Memᴰ t have → Derives have t
+  pub knows : (n : ℕ) → Derives have (public n)
+  pub adds : (t u : Term A block) → Derives have t → Derives have u → Derives have (xor t u)
+  pub writes : (k : Term A block) (t : Term A text) → Derives have k → Derives have t → Derives have (k then t)
+  pub numbers : (ns : List ℕ) → Derives have (tweak ns)
+  pub hashes : (t : Term A text) → Derives have t → Derives have (pad t)
+  pub alike : (s : Sort) (t u : Term A s) → t ≈ u → Derives have t → Derives have u
 
 -- two lists that nobody tells apart
 pub record StaticallyEquivalent {A : Type 0} (a e : List (Term A block)) : Type 0 where
