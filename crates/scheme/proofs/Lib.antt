@@ -8,3 +8,4 @@ mod Known
 mod Views
 mod Differences
 mod Pairs
+mod Hidden

@@ -56,7 +56,7 @@ kept-all c xs ys coins ws made same =
 -- the answer and its meaning, where all that is given fits
 module _ (c : Circuit) (xs ys coins : List Bool) (good : WellFormed c) (xs-fit : length xs ≡ c .inputs) (ys-fit : length ys ≡ c .inputs)
     (coins-fit : length coins ≡ wireCount c) where
-  pairs : Paired c xs ys coins (pairedCoins c xs ys coins)
+  pub pairs : Paired c xs ys coins (pairedCoins c xs ys coins)
   pairs =
       record {
         size = paired-size c xs ys coins ∙ coins-fit;
@@ -66,6 +66,9 @@ module _ (c : Circuit) (xs ys coins : List Bool) (good : WellFormed c) (xs-fit :
         inputs = λ w below same. keeps-coins c xs ys coins w (omega arith)
             (input-value c good xs xs-fit w below ∙ same ∙ sym (input-value c good ys ys-fit w below));
       }
+
+  pub kept-outputs : result c xs ≡ result c ys → atAll (pairedCoins c xs ys coins) (c .outputs) ≡ atAll coins (c .outputs)
+  kept-outputs one-result = kept-all c xs ys coins (c .outputs) (λ k below. rw coins-fit (good .5 k below)) one-result
 
   by-result : pairing c xs ys coins ≡ Ok (byDifference (firstDifference 0 (result c xs) (result c ys)) (pairedCoins c xs ys coins))
   by-result = rw (eq-eqb (length xs) (c .inputs) xs-fit, eq-eqb (length ys) (c .inputs) ys-fit, eq-eqb (length coins) (wireCount c) coins-fit)
@@ -86,6 +89,6 @@ module _ (c : Circuit) (xs ys coins : List Bool) (good : WellFormed c) (xs-fit :
             (record {
               result = one-result;
               pairs = pairs;
-              outputs = kept-all c xs ys coins (c .outputs) (λ k below. rw coins-fit (good .5 k below)) one-result;
+              outputs = kept-outputs one-result;
             }),
       )

@@ -2,7 +2,8 @@
 use mathlib.Core.Bool.{Bool}
 use mathlib.Core.List.{List, [], _∷_, _++_, map, flatten, Forall₂, Forall₂·nil, Forall₂·cons, List·Memᴰ, List·Memᴰ·head, List·Memᴰ·tail, List·Memᴰ·not-nil, List·Memᴰ·cases-cons, Memᴰ·append-left, Memᴰ·append-right}
 use mathlib.Core.Logic.{_⊎_, inl, inr}
-use mathlib.Core.Path.{_≡_, sym, ap, subst}
+use mathlib.Core.Path.{_≡_, refl, sym, ap, ap₂, subst}
+use mathlib.Mathlib.Data.List.Forall2.{forall₂-eq-eq-eq}
 use Prim.Native.Nat.{ℕ, zero, suc, _+_, _^_, _<_}
 use native.Mathlib.Nat.{add-zero}
 use native.Mathlib.Omega.{arith}
@@ -73,3 +74,14 @@ pub flatten-member : {X : Type 0} {x : X} {xs : List X} {xss : List (List X)} �
 unfolding flatten
 flatten-member {x = x} {xs = xs} m (List·Memᴰ·head {x = ys} {xs = yss} e) = Memᴰ·append-left (flatten yss) (subst (λ zs. List·Memᴰ x zs) e m)
 flatten-member m (List·Memᴰ·tail {x = ys} n) = Memᴰ·append-right ys (flatten-member m n)
+
+-- what is equal place by place is equal
+equal-beside : {X : Type 0} {xs ys : List X} → Forall₂ (λ x y. x ≡ y) xs ys → xs ≡ ys
+equal-beside h = forall₂-eq-eq-eq .0 h
+
+pub equal-tables : {X : Type 0} {xss yss : List (List X)} → Forall₂ (Forall₂ (λ x y. x ≡ y)) xss yss → xss ≡ yss
+equal-tables Forall₂·nil = refl
+equal-tables (Forall₂·cons h t) = ap₂ (λ ls rest. ls ∷ rest) (equal-beside h) (equal-tables t)
+
+pub equal-tabulate : {X : Type 0} (f g : ℕ → X) (n : ℕ) → ((i : ℕ) → i < n → f i ≡ g i) → tabulate n f ≡ tabulate n g
+equal-tabulate f g n h = equal-beside (tabulate-beside (λ x y. x ≡ y) f g n h)

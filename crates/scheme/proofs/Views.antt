@@ -1,5 +1,5 @@
 -- What is seen is what can be derived, and it is the same where every wire has the same active key and the meanings are the same. Assumes nothing.
-use mathlib.Core.Bool.{Bool, true, false, cond, not}
+use mathlib.Core.Bool.{Bool, true, false, cond, _&&_, not}
 use mathlib.Core.List.{List, [], _∷_, map, zipWith, flatten, Forall₂, List·Memᴰ}
 use mathlib.Core.Logic.{_⊎_, inl, inr}
 use mathlib.Core.Path.{_≡_, refl, sym, ap, ap₂, subst, _∙_}
@@ -15,14 +15,14 @@ use Rattle.circuit.specs.Circuit.{Circuit, WellFormed, wireCount, at, values}
 use Rattle.circuit.specs.Numbers.{bits}
 use Rattle.circuit.proofs.Numbers.{length-bits}
 use Rattle.scheme.specs.Coins.{_⊕_, colour}
-use Rattle.scheme.specs.Garbling.{Label, label, Row, Seen, opened, closed, View, valueKey, active, isActive, allActive, look, view, tabulate}
+use Rattle.scheme.specs.Garbling.{Label, label, Row, Seen, opened, closed, View, valueKey, active, isActive, allActive, look, view, meanings}
 use Rattle.scheme.specs.Promises.{Fits, Known, SeenAs, as-open, as-closed, Shows, Sees, SeenByDerivation}
 use Rattle.scheme.specs.Yao.{gateAt, byColour, numbered, tablesBy}
 use Rattle.scheme.proofs.Colours.{xor-same}
 use Rattle.scheme.proofs.Known.{row-member, row-opens, active-known, only-active}
-use Rattle.scheme.proofs.Reach.{coloured, row, wires-below}
-use Rattle.scheme.proofs.Rows.{coloursOf, keys-of-colours, active-row, active-colours, colours-from-active, input-value}
-use Rattle.scheme.proofs.Tables.{tabulate-beside, tables-beside, beside-map-map, tabulate-member, member-beside}
+use Rattle.scheme.proofs.Reach.{coloured, row, wires-below, holds-agree}
+use Rattle.scheme.proofs.Rows.{coloursOf, keys-of-colours, active-row, active-colours, colours-from-active, keys-below, input-value}
+use Rattle.scheme.proofs.Tables.{tabulate-beside, tables-beside, map-map-beside, beside-map-map, tabulate-member, member-beside, equal-tables, equal-tabulate}
 
 module _ (coin : List Bool → ℕ → Bool) (decoded : Circuit → List ℕ) (c : Circuit) (good : WellFormed c) (xs coins : List Bool) (fit : length xs ≡ c .inputs) where
   -- keys that can be derived are active
@@ -117,3 +117,39 @@ module _ (coin : List Bool → ℕ → Bool) (decoded : Circuit → List ℕ) (c
 
 pub seen-by-derivation : (coin : List Bool → ℕ → Bool) (decoded : Circuit → List ℕ) → SeenByDerivation (coloured coin decoded)
 seen-by-derivation coin decoded c xs coins fits = sees coin decoded c (fits .well-formed) xs coins (fits .inputs)
+
+-- two runs in which every wire has the same active key, and the meanings are the same
+module _ (coin : List Bool → ℕ → Bool) (decoded : Circuit → List ℕ) (c : Circuit) (good : WellFormed c) (xs ys coins others : List Bool) (xs-fit : length xs ≡ c .inputs)
+    (ys-fit : length ys ≡ c .inputs)
+    (agree : (w : ℕ) → w < wireCount c → active (coloured coin decoded) c xs coins w .colour ≡ active (coloured coin decoded) c ys others w .colour) where
+  active-agree : (ks : List Label) → All (λ k. k .wire < wireCount c) ks → allActive (coloured coin decoded) c xs coins ks ≡ allActive (coloured coin decoded) c ys others ks
+  active-agree [] all = refl
+  active-agree (k ∷ ks) all = ap₂ _&&_ (ap (λ b. not (k .colour ⊕ b)) (agree (k .wire) (all .0))) (active-agree ks (all .1))
+
+  look-agree : (k : ℕ) → k < length (c .gates) → (cs : List Bool) → length cs ≡ length (gateAt c k .wires) →
+      look (coloured coin decoded) c xs coins (row coin decoded c coins k cs) ≡ look (coloured coin decoded) c ys others (row coin decoded c others k cs)
+  look-agree k below cs len =
+      go (allActive (coloured coin decoded) c xs coins keys) refl
+      ∙ ap (λ b. cond b (opened (row coin decoded c others k cs .holds)) closed)
+      (active-agree keys (keys-below (wireCount c) (gateAt c k .wires) cs (wires-below coin decoded c good xs ys coins others xs-fit ys-fit agree k below)))
+    where
+      keys : List Label
+      keys = zipWith label (gateAt c k .wires) cs
+
+      go : (b : Bool) → allActive (coloured coin decoded) c xs coins keys ≡ b →
+          cond b (opened (row coin decoded c coins k cs .holds)) closed ≡ cond b (opened (row coin decoded c others k cs .holds)) closed
+      go true all = ap opened (holds-agree coin decoded c good xs ys coins others xs-fit ys-fit agree k below cs len all)
+      go false some = refl
+
+  key-agree : (w : ℕ) → w < c .inputs → valueKey (coloured coin decoded) c coins w (at xs w) ≡ valueKey (coloured coin decoded) c others w (at ys w)
+  key-agree w below = ap (label w) (rw (← (input-value c good xs xs-fit w below), ← (input-value c good ys ys-fit w below)) (agree w (omega arith)))
+
+  pub view-agrees : meanings (coloured coin decoded) c coins ≡ meanings (coloured coin decoded) c others →
+      view (coloured coin decoded) c xs coins ≡ view (coloured coin decoded) c ys others
+  view-agrees same =
+      let keys = equal-tabulate (λ w. valueKey (coloured coin decoded) c coins w (at xs w)) (λ w. valueKey (coloured coin decoded) c others w (at ys w)) (c .inputs) key-agree in
+      let rows =
+      equal-tables (map-map-beside (λ s t. s ≡ t) (look (coloured coin decoded) c xs coins) (look (coloured coin decoded) c ys others)
+      (tables-beside (λ r q. look (coloured coin decoded) c xs coins r ≡ look (coloured coin decoded) c ys others q) byColour numbered c (coin coins) (coin others)
+      (λ k below p small. look-agree k below (bits (length (gateAt c k .wires)) p) (length-bits (length (gateAt c k .wires)) p)))) in
+      λ i. record { keys = keys i; rows = rows i; meanings = same i }
