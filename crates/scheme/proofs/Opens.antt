@@ -1,0 +1,150 @@
+-- The opening of what is sent gives the circuit's result, for all coins, keys and hashes. Assumes nothing.
+use mathlib.Core.Bool.{Bool, true, false}
+use mathlib.Core.List.{List, [], _∷_, _++_, map, map-map, zipWith}
+use mathlib.Core.Path.{_≡_, refl, sym, ap, ap₂, _∙_}
+use Prim.Native.Nat.{ℕ, zero, suc, _+_, _^_, _<_, _≤_}
+use native.Mathlib.Omega.{arith}
+use lib.ListN.{length, getD, drop}
+use Rattle.std.specs.Iters.{counting}
+use Rattle.std.specs.shelf.Lists.{All}
+use Rattle.std.proofs.shelf.Counted.{length-map-counting, getD-map-counting, map-counting-more}
+use Rattle.std.proofs.shelf.Elements.{all-from-getD}
+use Rattle.std.proofs.shelf.Lists.{getD-map, length-map, drop-more, drop-all, drop-drop, getD-drop}
+use Rattle.circuit.specs.Circuit.{Circuit, WellFormed, wireCount, noGate, at, atAll, values, result}
+use Rattle.circuit.specs.Numbers.{binary, bits}
+use Rattle.circuit.specs.declared.gates.Gate.{Gate}
+use Rattle.circuit.proofs.Numbers.{bits-binary, binary-lt}
+use Rattle.scheme.specs.Coins.{_⊕_, colour}
+use Rattle.scheme.specs.Garbling.{Label, label, Row, textOf, tabulate, valueKey, cipher, sent, active}
+use Rattle.scheme.specs.Opening.{xorBytes, colourOf, Hash, Drawn, value, openRow, openGate, heldAt, openGates, decode, evaluate}
+use Rattle.scheme.specs.Promises.{Fits, Coloured, Right}
+use Rattle.scheme.specs.Terms.{block, Term, secret, xor, pad, same, chain, regroup, unit, twice, in-xor}
+use Rattle.scheme.specs.Yao.{gateAt, rowAt, byColour, numbered, tablesBy, outputsOnly}
+use Rattle.scheme.proofs.Blocks.{sound}
+use Rattle.scheme.proofs.Colours.{xor-back}
+use Rattle.scheme.proofs.Reach.{coloured, row}
+use Rattle.scheme.proofs.Rows.{gate-wires, coloursOf, keys-of-colours, active-row, input-value}
+use Rattle.scheme.proofs.Tables.{equal-tabulate}
+
+-- an entry of what is made from a tabulated list
+entry : {X Y Z : Type 0} (f : Y → Z) (g : X → Y) (h : ℕ → X) (n i : ℕ) (x : X) (y : Y) (z : Z) → i < n → getD (map f (map g (tabulate n h))) i z ≡ f (g (h i))
+entry f g h n i x y z below =
+    let size = length-map-counting h 0 n in
+    getD-map f (map g (tabulate n h)) i y z (omega (arith, length-map (tabulate n h) g))
+    ∙ ap f (getD-map g (tabulate n h) i x y (omega arith) ∙ ap g (getD-map-counting h 0 n i i x below (omega arith)))
+
+text-value : (d : Drawn Label) (ks : List Label) (ns : List ℕ) → value d (textOf (map secret ks) ns) ≡ (map (d .secrets) ks, ns)
+unfolding value
+text-value d [] ns = refl
+text-value d (k ∷ ks) ns = ap (λ (p : List (List ℕ) × List ℕ). (d .secrets k ∷ p .0, p .1)) (text-value d ks ns)
+
+-- a pad added twice is gone
+taken-off : (d : Drawn Label) (t u : Term Label block) → xorBytes (value d (xor t u)) (value d u) ≡ value d t
+unfolding value
+taken-off d t u = sound d block (xor (xor t u) u) t (chain (regroup t u u) (chain (in-xor same (twice u)) (unit t)))
+
+module _ (coin : List Bool → ℕ → Bool) (c : Circuit) (good : WellFormed c) (xs coins : List Bool) (fit : length xs ≡ c .inputs) (d : Drawn Label)
+    (shown : (k : Label) → colourOf (d .secrets k) ≡ k .colour) where
+  -- the bytes of the active key of a wire
+  abbrev held : ℕ → List ℕ
+  held w = d .secrets (active (coloured coin outputsOnly) c xs coins w)
+
+  abbrev tables : List (List (List ℕ))
+  tables = map (map (λ t. value d t)) (map (map (cipher (coloured coin outputsOnly) c coins)) (tablesBy byColour numbered c (coin coins)))
+
+  held-of : (n : ℕ) (ws : List ℕ) → All (λ w. w < n) ws → heldAt (tabulate n held) ws ≡ map held ws
+  held-of n [] all = refl
+  held-of n (w ∷ ws) all = ap₂ (λ (k : List ℕ) (ks : List (List ℕ)). k ∷ ks) (getD-map-counting held 0 n w w [] (all .0) (omega arith)) (held-of n ws (all .1))
+
+  colours-held : (ws : List ℕ) → map colourOf (map held ws) ≡ coloursOf (coin coins) (values c xs) ws
+  colours-held [] = refl
+  colours-held (w ∷ ws) = ap₂ (λ (b : Bool) (bs : List Bool). b ∷ bs) (shown (active (coloured coin outputsOnly) c xs coins w)) (colours-held ws)
+
+  secrets-held : (ws : List ℕ) → map (d .secrets) (map (active (coloured coin outputsOnly) c xs coins) ws) ≡ map held ws
+  secrets-held [] = refl
+  secrets-held (w ∷ ws) = ap (λ ks. held w ∷ ks) (secrets-held ws)
+
+  module _ (k : ℕ) (below : k < length (c .gates)) where
+    abbrev wires : List ℕ
+    wires = gateAt c k .wires
+
+    abbrev colours : List Bool
+    colours = coloursOf (coin coins) (values c xs) wires
+
+    sized : length colours ≡ length wires
+    sized = length-map wires (λ w. colour (coin coins w) (at (values c xs) w))
+
+    -- the row that the colours name
+    row-there : getD (getD tables k []) (binary colours) [] ≡ value d (cipher (coloured coin outputsOnly) c coins (row coin outputsOnly c coins k colours))
+    row-there =
+        let n = length wires in
+        let small : binary colours < 2 ^ n = rw sized at (binary-lt colours) in
+        ap (λ rows. getD rows (binary colours) [])
+        (entry (map (λ t. value d t)) (map (cipher (coloured coin outputsOnly) c coins)) (λ k. tabulate (2 ^ length (gateAt c k .wires)) (rowAt byColour numbered c (coin coins) k))
+        (length (c .gates)) k [] [] [] below)
+        ∙ entry (λ t. value d t) (cipher (coloured coin outputsOnly) c coins) (rowAt byColour numbered c (coin coins) k) (2 ^ n) (binary colours)
+        (row coin outputsOnly c coins 0 []) (secret (label 0 false)) [] small
+        ∙ ap (λ cs. value d (cipher (coloured coin outputsOnly) c coins (row coin outputsOnly c coins k cs))) (bits-binary n colours sized)
+
+    -- its pad
+    pad-there : d .hash (map held wires) (numbered k colours) ≡ value d (pad (textOf (map secret (zipWith label wires colours)) (numbered k colours)))
+    unfolding value
+    pad-there =
+        sym (ap (λ (p : List (List ℕ) × List ℕ). d .hash (p .0) (p .1))
+        (text-value d (zipWith label wires colours) (numbered k colours)
+        ∙ ap (λ (ks : List (List ℕ)). (ks, numbered k colours)) (ap (map (d .secrets)) (keys-of-colours (coin coins) (values c xs) wires) ∙ secrets-held wires)))
+
+    gate-opens : openGate (d .hash) k (heldAt (tabulate (c .inputs + k) held) wires) (getD tables k []) ≡ held (c .inputs + k)
+    unfolding value
+    gate-opens =
+        ap (λ ks. openGate (d .hash) k ks (getD tables k [])) (held-of (c .inputs + k) wires (gate-wires c good k below))
+        ∙ ap (λ cs. openRow (d .hash) k (map held wires) (getD tables k []) (binary cs)) (colours-held wires)
+        ∙ ap₂ xorBytes row-there pad-there
+        ∙ taken-off d (secret (row coin outputsOnly c coins k colours .holds)) (pad (textOf (map secret (zipWith label wires colours)) (numbered k colours)))
+        ∙ ap (d .secrets) (active-row c good xs fit (coin coins) k below (numbered k colours))
+
+  -- gate after gate
+  gates-open : (n k : ℕ) → k + n ≡ length (c .gates) → openGates (d .hash) k (drop k (c .gates)) (drop k tables) (tabulate (c .inputs + k) held) ≡ tabulate (wireCount c) held
+  unfolding openGates
+  gates-open zero k end =
+      let all : k ≡ length (c .gates) = omega arith in
+      ap (λ gs. openGates (d .hash) k gs (drop k tables) (tabulate (c .inputs + k) held)) (drop-all k (c .gates) (omega arith))
+      ∙ ap (λ m. tabulate (c .inputs + m) held) all
+  gates-open (suc n) k end =
+      let below : k < length (c .gates) = omega arith in
+      ap (λ gs. openGates (d .hash) k gs (drop k tables) (tabulate (c .inputs + k) held)) (drop-more (c .gates) k noGate below)
+      ∙ ap (λ rows. openGates (d .hash) (k + 1) (drop (k + 1) (c .gates)) (drop 1 (drop k tables))
+      (tabulate (c .inputs + k) held ++ (openGate (d .hash) k (heldAt (tabulate (c .inputs + k) held) (gateAt c k .wires)) rows ∷ [])))
+      (getD-drop k tables 0 [] ∙ ap (λ j. getD tables j []) (omega arith))
+      ∙ ap₂ (λ (rest : List (List (List ℕ))) (ks : List (List ℕ)). openGates (d .hash) (k + 1) (drop (k + 1) (c .gates)) rest ks)
+      (drop-drop 1 k tables)
+      (ap (λ key. tabulate (c .inputs + k) held ++ (key ∷ [])) (gate-opens k below) ∙ sym (map-counting-more held 0 (c .inputs + k) (c .inputs + k) (omega arith))
+      ∙ ap (λ m. tabulate m held) (omega arith))
+      ∙ gates-open n (k + 1) (omega arith)
+
+  outputs-decode : (ws : List ℕ) → All (λ w. w < wireCount c) ws → decode (map (coin coins) ws) (heldAt (tabulate (wireCount c) held) ws) ≡ atAll (values c xs) ws
+  unfolding zipWith
+  outputs-decode [] all = refl
+  outputs-decode (w ∷ ws) all =
+      ap₂ (λ (b : Bool) (bs : List Bool). b ∷ bs)
+      (ap (λ key. colour (coin coins w) (colourOf key)) (getD-map-counting held 0 (wireCount c) w w [] (all .0) (omega arith))
+      ∙ ap (colour (coin coins w)) (shown (active (coloured coin outputsOnly) c xs coins w)) ∙ xor-back (coin coins w) (at (values c xs) w))
+      (outputs-decode ws (all .1))
+
+  inputs-held : map (λ t. value d t) (sent (coloured coin outputsOnly) c xs coins .keys) ≡ tabulate (c .inputs + 0) held
+  unfolding value
+  inputs-held =
+      map-map (λ t. value d t) (λ w. secret (valueKey (coloured coin outputsOnly) c coins w (at xs w))) (counting 0 (c .inputs))
+      ∙ equal-tabulate (λ w. d .secrets (valueKey (coloured coin outputsOnly) c coins w (at xs w))) held (c .inputs)
+      (λ w below. ap (λ v. d .secrets (valueKey (coloured coin outputsOnly) c coins w v)) (sym (input-value c good xs fit w below)))
+      ∙ ap (λ n. tabulate n held) (omega arith)
+
+  opened : evaluate (d .hash) c (map (λ t. value d t) (sent (coloured coin outputsOnly) c xs coins .keys)) tables (map (coin coins) (c .outputs)) ≡ result c xs
+  opened =
+      ap (λ ks. decode (map (coin coins) (c .outputs)) (heldAt ks (c .outputs))) (ap (openGates (d .hash) 0 (c .gates) tables) inputs-held ∙ gates-open (length (c .gates)) 0 (omega arith))
+      ∙ outputs-decode (c .outputs) (all-from-getD (λ w. w < wireCount c) (c .outputs) 0 (good .5))
+
+-- also for a scheme that turns no colour over, or others than the coins drawn
+pub right : (coin : List Bool → ℕ → Bool) → Right (coloured coin outputsOnly)
+unfolding value
+right coin c xs coins fits d shown = opened coin c (fits .well-formed) xs coins (fits .inputs) d shown
