@@ -1,4 +1,4 @@
--- The rules of deduction, and what is got by them from a row. Assumes nothing.
+-- Equal terms, the rules of deduction, and what is got by them from a row. Assumes nothing.
 use mathlib.Core.List.{List, [], _∷_, map, List·Memᴰ, List·Memᴰ·head, List·Memᴰ·tail}
 use mathlib.Core.Path.{_≡_, refl, sym}
 use Prim.Native.Nat.{ℕ, suc}
@@ -9,6 +9,10 @@ use Rattle.scheme.specs.Terms.{Sort, block, text, Term, secret, public, xor, p
 
 pub equals : {A : Type 0} {s : Sort} {t u : Term A s} → t ≡ u → t ≈ u
 equals e = rw e same
+
+-- added twice is gone
+pub off : {A : Type 0} (t u : Term A block) → xor (xor t u) u ≈ t
+off t u = chain (regroup t u u) (chain (in-xor same (twice u)) (unit t))
 
 place-of : {A : Type 0} {t : Term A block} {have : List (Term A block)} → List·Memᴰ t have → (i : ℕ) × (getD have i (public 0) ≡ t)
 place-of (List·Memᴰ·head e) = (0, sym e)
@@ -34,5 +38,4 @@ module _ {A : Type 0} (have : List (Term A block)) where
 
   -- what is closed with something that can be derived can be derived
   pub take-off : (t u : Term A block) → Derives have (xor t u) → Derives have u → Derives have t
-  take-off t u d e =
-      deduction have .alike block (xor (xor t u) u) t (chain (regroup t u u) (chain (in-xor same (twice u)) (unit t))) (deduction have .adds (xor t u) u d e)
+  take-off t u d e = deduction have .alike block (xor (xor t u) u) t (off t u) (deduction have .adds (xor t u) u d e)

@@ -11,3 +11,4 @@ mod Opens
 mod Differences
 mod Pairs
 mod Hidden
+mod Missed

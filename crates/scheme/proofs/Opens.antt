@@ -18,11 +18,12 @@ use Rattle.scheme.specs.Coins.{_⊕_, colour}
 use Rattle.scheme.specs.Garbling.{Label, label, Row, textOf, tabulate, valueKey, cipher, sent, active}
 use Rattle.scheme.specs.Opening.{xorBytes, colourOf, Hash, Drawn, value, openRow, openGate, heldAt, openGates, decode, evaluate}
 use Rattle.scheme.specs.Promises.{Fits, Coloured, Right}
-use Rattle.scheme.specs.Terms.{block, Term, secret, xor, pad, same, chain, regroup, unit, twice, in-xor}
+use Rattle.scheme.specs.Terms.{block, Term, secret, xor, pad}
 use Rattle.scheme.specs.Yao.{gateAt, rowAt, byColour, numbered, tablesBy, outputsOnly}
 use Rattle.scheme.proofs.Blocks.{sound}
 use Rattle.scheme.proofs.Colours.{xor-back}
-use Rattle.scheme.proofs.Reach.{coloured, row}
+use Rattle.scheme.proofs.Derived.{off}
+use Rattle.scheme.proofs.Reach.{coloured, row, wires-below}
 use Rattle.scheme.proofs.Rows.{gate-wires, coloursOf, keys-of-colours, active-row, input-value}
 use Rattle.scheme.proofs.Tables.{equal-tabulate}
 
@@ -41,10 +42,10 @@ text-value d (k ∷ ks) ns = ap (λ (p : List (List ℕ) × List ℕ). (d .secre
 -- a pad added twice is gone
 taken-off : (d : Drawn Label) (t u : Term Label block) → xorBytes (value d (xor t u)) (value d u) ≡ value d t
 unfolding value
-taken-off d t u = sound d block (xor (xor t u) u) t (chain (regroup t u u) (chain (in-xor same (twice u)) (unit t)))
+taken-off d t u = sound d block (xor (xor t u) u) t (off t u)
 
 module _ (coin : List Bool → ℕ → Bool) (c : Circuit) (good : WellFormed c) (xs coins : List Bool) (fit : length xs ≡ c .inputs) (d : Drawn Label)
-    (shown : (k : Label) → colourOf (d .secrets k) ≡ k .colour) where
+    (shown : (k : Label) → k .wire < wireCount c → colourOf (d .secrets k) ≡ k .colour) where
   -- the bytes of the active key of a wire
   abbrev held : ℕ → List ℕ
   held w = d .secrets (active (coloured coin outputsOnly) c xs coins w)
@@ -56,9 +57,9 @@ module _ (coin : List Bool → ℕ → Bool) (c : Circuit) (good : WellFormed c)
   held-of n [] all = refl
   held-of n (w ∷ ws) all = ap₂ (λ (k : List ℕ) (ks : List (List ℕ)). k ∷ ks) (getD-map-counting held 0 n w w [] (all .0) (omega arith)) (held-of n ws (all .1))
 
-  colours-held : (ws : List ℕ) → map colourOf (map held ws) ≡ coloursOf (coin coins) (values c xs) ws
-  colours-held [] = refl
-  colours-held (w ∷ ws) = ap₂ (λ (b : Bool) (bs : List Bool). b ∷ bs) (shown (active (coloured coin outputsOnly) c xs coins w)) (colours-held ws)
+  colours-held : (ws : List ℕ) → All (λ w. w < wireCount c) ws → map colourOf (map held ws) ≡ coloursOf (coin coins) (values c xs) ws
+  colours-held [] all = refl
+  colours-held (w ∷ ws) all = ap₂ (λ (b : Bool) (bs : List Bool). b ∷ bs) (shown (active (coloured coin outputsOnly) c xs coins w) (all .0)) (colours-held ws (all .1))
 
   secrets-held : (ws : List ℕ) → map (d .secrets) (map (active (coloured coin outputsOnly) c xs coins) ws) ≡ map held ws
   secrets-held [] = refl
@@ -98,7 +99,7 @@ module _ (coin : List Bool → ℕ → Bool) (c : Circuit) (good : WellFormed c)
     unfolding value
     gate-opens =
         ap (λ ks. openGate (d .hash) k ks (getD tables k [])) (held-of (c .inputs + k) wires (gate-wires c good k below))
-        ∙ ap (λ cs. openRow (d .hash) k (map held wires) (getD tables k []) (binary cs)) (colours-held wires)
+        ∙ ap (λ cs. openRow (d .hash) k (map held wires) (getD tables k []) (binary cs)) (colours-held wires (wires-below coin outputsOnly c good xs xs coins coins fit fit (λ w small. refl) k below))
         ∙ ap₂ xorBytes row-there pad-there
         ∙ taken-off d (secret (row coin outputsOnly c coins k colours .holds)) (pad (textOf (map secret (zipWith label wires colours)) (numbered k colours)))
         ∙ ap (d .secrets) (active-row c good xs fit (coin coins) k below (numbered k colours))
@@ -128,7 +129,7 @@ module _ (coin : List Bool → ℕ → Bool) (c : Circuit) (good : WellFormed c)
   outputs-decode (w ∷ ws) all =
       ap₂ (λ (b : Bool) (bs : List Bool). b ∷ bs)
       (ap (λ key. colour (coin coins w) (colourOf key)) (getD-map-counting held 0 (wireCount c) w w [] (all .0) (omega arith))
-      ∙ ap (colour (coin coins w)) (shown (active (coloured coin outputsOnly) c xs coins w)) ∙ xor-back (coin coins w) (at (values c xs) w))
+      ∙ ap (colour (coin coins w)) (shown (active (coloured coin outputsOnly) c xs coins w) (all .0)) ∙ xor-back (coin coins w) (at (values c xs) w))
       (outputs-decode ws (all .1))
 
   inputs-held : map (λ t. value d t) (sent (coloured coin outputsOnly) c xs coins .keys) ≡ tabulate (c .inputs + 0) held

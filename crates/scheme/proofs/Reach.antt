@@ -17,10 +17,10 @@ use Rattle.circuit.proofs.Numbers.{bits-binary, length-bits}
 use Rattle.scheme.specs.Coins.{_⊕_, colour}
 use Rattle.scheme.specs.Garbling.{Label, label, Row, Scheme, blocks, textOf, tabulate, valueKey, cipher, sent, active, isActive, allActive}
 use Rattle.scheme.specs.Marking.{Marking, tweakOf, marked, exchanged, Simulates}
-use Rattle.scheme.specs.Terms.{block, text, Term, secret, xor, pad, tweak, _then_, same, flip, chain, regroup, swap, unit, twice, in-xor, _≈_}
+use Rattle.scheme.specs.Terms.{block, text, Term, secret, xor, pad, tweak, _then_, same, chain, swap, in-xor, _≈_}
 use Rattle.scheme.specs.Yao.{rowFor, gateAt, rowAt, byColour, numbered, yaoBy}
 use Rattle.scheme.proofs.Colours.{xor-same, same-from-xor}
-use Rattle.scheme.proofs.Derived.{equals}
+use Rattle.scheme.proofs.Derived.{equals, off}
 use Rattle.scheme.proofs.Rows.{gate-wires, coloursOf, active-row, active-colours, colours-from-active, keys-below, input-value}
 use Rattle.scheme.proofs.Tables.{tabulate-beside, tables-beside, map-map-beside}
 
@@ -28,10 +28,6 @@ tweak-of-text : {A : Type 0} (ks : List (Term A block)) (ns : List ℕ) → twea
 unfolding tweakOf
 tweak-of-text [] ns = refl
 tweak-of-text (k ∷ ks) ns = tweak-of-text ks ns
-
--- added twice is gone
-gone : {A : Type 0} (t u : Term A block) → xor t (xor t u) ≈ u
-gone t u = chain (flip (regroup t t u)) (chain (in-xor (twice t) same) (chain (swap _ u) (unit u)))
 
 not-and : (a b : Bool) → (not a || not b) ≡ not (a && b)
 not-and true b = refl
@@ -178,7 +174,7 @@ module _ (coin : List Bool → ℕ → Bool) (decoded : Circuit → List ℕ) (c
 
       go : (b : Bool) → allActive (coloured coin decoded) c xs coins keys ≡ b → xor (secret here) (cond (not b) (xor (secret here) other) closing) ≈ other
       go true all = equals (ap (λ h. xor (secret h) closing) (holds-agree k below cs len all))
-      go false some = gone (secret here) other
+      go false some = chain (in-xor same (swap (secret here) other)) (chain (swap (secret here) (xor other (secret here))) (off other (secret here)))
 
   key-becomes : (w : ℕ) → w < c .inputs →
       Becomes (secret (valueKey (coloured coin decoded) c coins w (at xs w))) (secret (valueKey (coloured coin decoded) c others w (at ys w)))

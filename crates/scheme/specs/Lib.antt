@@ -6,4 +6,5 @@ pub mod Yao
 pub mod Opening
 pub mod Promises
 pub mod NearMisses
+pub mod Examples
 pub mod Outcome

@@ -1,12 +1,14 @@
 -- Schemes that come near: each decides one thing otherwise, and breaks a promise. Assumes nothing.
-use mathlib.Core.Bool.{false}
+use mathlib.Core.Bool.{true, false}
 use mathlib.Core.List.{List, [], _∷_}
+use Prim.Native.Nat.{ℕ}
 use lib.ListN.{length}
 use Rattle.std.specs.Iters.{counting}
-use Rattle.circuit.specs.Circuit.{wireCount, at}
+use Rattle.circuit.specs.Circuit.{Circuit, wireCount, at}
 use Rattle.circuit.specs.Numbers.{binary, bits}
-use Rattle.scheme.specs.Garbling.{Label, Scheme}
-use Rattle.scheme.specs.Promises.{OneKey, HidesInputs}
+use Rattle.scheme.specs.Garbling.{Label, label, Scheme, blocks, sent}
+use Rattle.scheme.specs.Promises.{Right, OneKey, SeenByDerivation, HidesInputs}
+use Rattle.scheme.specs.Terms.{block, secret, xor, pad, tweak, _then_, _≈_, Recipe, run}
 use Rattle.scheme.specs.Yao.{Order, Tweak, turned, byColour, numbered, yaoBy, outputsOnly}
 
 -- without coins: a key's colour is its value
@@ -27,13 +29,35 @@ unnumbered k cs = binary cs ∷ []
 abbrev pub withoutNumbers : Scheme Label
 withoutNumbers = yaoBy at byColour unnumbered outputsOnly
 
--- with meanings of all wires
+-- meanings of all wires
 abbrev pub withAllMeanings : Scheme Label
 withAllMeanings = yaoBy at byColour numbered (λ c. counting 0 (wireCount c))
+
+-- the smallest circuit with two gates: both take its one input twice, and the one gives what it is, the other 0
+abbrev pub twoGates : Circuit
+twoGates =
+    record {
+      inputs = 1;
+      opener = 0;
+      gates =
+          record { wires = 0 ∷ 0 ∷ []; gives = false ∷ false ∷ false ∷ true ∷ [] }
+          ∷ record { wires = 0 ∷ 0 ∷ []; gives = false ∷ false ∷ false ∷ false ∷ [] } ∷ [];
+      outputs = 1 ∷ [];
+    }
+
+-- What an opener does with it where gates have no numbers. It has the input's key (0), the rows of the first gate (1 to 4) and of the second (5 to 8). The key
+-- opens the last row of the second gate, which holds the same key as that gate's first row; so it has the pad of that, which is the pad of the first gate's first
+-- row too.
+abbrev pub overlaid : Recipe block
+overlaid = xor (secret 1) (xor (secret 5) (xor (secret 8) (pad (secret 0 then secret 0 then tweak (3 ∷ [])))))
 
 -- the promise that each breaks
 pub record NearMisses : Type 0 where
   pub without-coins : HidesInputs withoutCoins → ⊥
   pub rows-by-value : HidesInputs rowsByValue → ⊥
   pub without-numbers : OneKey withoutNumbers → ⊥
+  -- for input 1 and no coin turned: the key of 0 of the first gate's wire, whose value is 1
+  pub overlaid-rows : run (blocks (sent withoutNumbers twoGates (true ∷ []) (false ∷ false ∷ false ∷ []))) overlaid ≈ secret (label 1 false)
   pub with-all-meanings : HidesInputs withAllMeanings → ⊥
+  -- no other promise tells the one without coins: its results are right
+  pub without-coins-else : Right withoutCoins × OneKey withoutCoins × SeenByDerivation withoutCoins

@@ -23,9 +23,9 @@ module _ {A : Type 0} (S : Scheme A) where
     pub inputs : length xs ≡ c .inputs
     pub drawn : length coins ≡ S .coins c
 
-  -- keys whose last bit is their colour
+  -- the last bit of each wire's keys is their colour
   abbrev pub Coloured : Circuit → List Bool → Drawn A → Type 0
-  Coloured c coins d = (k : Label) → colourOf (value d (S .key c coins k)) ≡ k .colour
+  Coloured c coins d = (k : Label) → k .wire < wireCount c → colourOf (value d (S .key c coins k)) ≡ k .colour
 
   -- 1. Right: for all coins, keys and hashes the opening of what is sent gives the circuit's result.
   abbrev pub Right : Type 0

@@ -1,0 +1,117 @@
+-- The schemes that come near break their promises. Assumes nothing.
+use mathlib.Core.Bool.{Bool, true, false, not}
+use mathlib.Core.List.{List, [], _∷_, map, zipWith, flatten}
+use mathlib.Core.Path.{_≡_, refl, sym, ap, _∙_}
+use Prim.Native.Nat.{ℕ, zero, suc, _+_, _<_}
+use native.Mathlib.Omega.{arith}
+use lib.ListN.{length, getD}
+use Rattle.std.proofs.shelf.Tests.{true≢false}
+use Rattle.circuit.specs.Circuit.{Circuit, WellFormed, GoodGates, Below, at, extended, result}
+use Rattle.circuit.specs.Numbers.{digits}
+use Rattle.scheme.specs.Coins.{_⊕_}
+use Rattle.scheme.specs.Examples.{conjunction}
+use Rattle.scheme.specs.Garbling.{Label, label, Scheme, Seen, opened, closed, View, blocks, sent, view}
+use Rattle.scheme.specs.NearMisses.{withoutCoins, rowsByValue, withoutNumbers, withAllMeanings, twoGates, overlaid, NearMisses}
+use Rattle.scheme.specs.Promises.{Fits, OneKey, HidesInputs, Matched}
+use Rattle.scheme.specs.Terms.{block, Term, secret, xor, pad, tweak, _then_, same, chain, swap, in-xor, _≈_, substitute, run}
+use Rattle.scheme.specs.Yao.{outputsOnly}
+use Rattle.scheme.proofs.Colours.{xor-same}
+use Rattle.scheme.proofs.Derived.{off}
+use Rattle.scheme.proofs.Known.{one-key}
+use Rattle.scheme.proofs.Opens.{right}
+use Rattle.scheme.proofs.Views.{seen-by-derivation}
+
+pub conjunction-formed : WellFormed conjunction
+conjunction-formed = (omega arith, omega arith, omega arith, omega arith, gates, outputs)
+  where
+    gates : GoodGates 2 (conjunction .gates)
+    gates zero below = (refl, omega arith, omega arith, refl)
+    gates (suc k) below = absurd (omega arith)
+
+    outputs : Below 3 (conjunction .outputs)
+    outputs zero below = omega arith
+    outputs (suc k) below = absurd (omega arith)
+
+-- inputs 1 0 and 0 1 have one result
+one-result : result conjunction (true ∷ false ∷ []) ≡ result conjunction (false ∷ true ∷ [])
+unfolding extended
+one-result = refl
+
+matched : (S : Scheme Label) → HidesInputs S → Matched S conjunction (true ∷ false ∷ []) (false ∷ true ∷ [])
+matched S hides = hides conjunction (true ∷ false ∷ []) (false ∷ true ∷ []) conjunction-formed refl refl one-result
+
+-- without coins the first key shows it
+without-coins : HidesInputs withoutCoins → ⊥
+without-coins hides =
+    true≢false (ap (λ (v : View). getD (v .keys) 0 (label 0 false) .colour) (matched withoutCoins hides .alike (false ∷ false ∷ false ∷ []) refl .view))
+
+-- in the order of values the place of the open row shows it, whatever the coins
+isOpen : Seen → Bool
+isOpen (opened k) = true
+isOpen closed = false
+
+abbrev second : View → Bool
+second v = isOpen (getD (getD (v .rows) 0 []) 1 closed)
+
+second-closed : second (view rowsByValue conjunction (true ∷ false ∷ []) (false ∷ false ∷ false ∷ [])) ≡ false
+unfolding extended zipWith digits isOpen
+second-closed = refl
+
+second-open : (coins : List Bool) → second (view rowsByValue conjunction (false ∷ true ∷ []) coins) ≡ true
+unfolding extended zipWith digits isOpen
+second-open coins = rw (xor-same (at coins 0 ⊕ false), xor-same (at coins 1 ⊕ true))
+
+rows-by-value : HidesInputs rowsByValue → ⊥
+rows-by-value hides =
+    let m = matched rowsByValue hides in
+    let none : List Bool = false ∷ false ∷ false ∷ [] in
+    true≢false (sym (second-open (m .there none)) ∙ sym (ap second (m .alike none refl .view)) ∙ second-closed)
+
+-- the meaning of an input shows it
+with-all-meanings : HidesInputs withAllMeanings → ⊥
+with-all-meanings hides =
+    let m = matched withAllMeanings hides in
+    let none : List Bool = false ∷ false ∷ false ∷ [] in
+    let seen = m .alike none refl .view in
+    let colour : true ≡ at (m .there none) 0 ⊕ false = ap (λ (v : View). getD (v .keys) 0 (label 0 false) .colour) seen in
+    let coin : false ≡ at (m .there none) 0 = ap (λ (v : View). at (v .meanings) 0) seen in
+    true≢false (colour ∙ ap (λ b. b ⊕ false) (sym coin))
+
+-- without gate numbers two rows have one pad, and laid over each other they are rid of it
+overlay : {A : Type 0} (t u p q : Term A block) → xor (xor t p) (xor (xor u p) (xor (xor u q) q)) ≈ t
+overlay t u p q = chain (in-xor same (chain (in-xor (swap u p) (off u q)) (off p u))) (off t p)
+
+overlaid-rows : run (blocks (sent withoutNumbers twoGates (true ∷ []) (false ∷ false ∷ false ∷ []))) overlaid ≈ secret (label 1 false)
+unfolding substitute flatten zipWith digits
+overlaid-rows =
+    overlay (secret (label 1 false)) (secret (label 2 false)) (pad (secret (label 0 false) then secret (label 0 false) then tweak (0 ∷ [])))
+    (pad (secret (label 0 true) then secret (label 0 true) then tweak (3 ∷ [])))
+
+two-gates-formed : WellFormed twoGates
+two-gates-formed = (omega arith, omega arith, omega arith, omega arith, gates, outputs)
+  where
+    gates : GoodGates 1 (twoGates .gates)
+    gates zero below = (refl, omega arith, omega arith, refl)
+    gates (suc zero) below = (refl, omega arith, omega arith, refl)
+    gates (suc (suc k)) below = absurd (omega arith)
+
+    outputs : Below 3 (twoGates .outputs)
+    outputs zero below = omega arith
+    outputs (suc k) below = absurd (omega arith)
+
+without-numbers : OneKey withoutNumbers → ⊥
+unfolding extended
+without-numbers one =
+    let fits : Fits withoutNumbers twoGates (true ∷ []) (false ∷ false ∷ false ∷ []) = record { well-formed = two-gates-formed; inputs = refl; drawn = refl } in
+    true≢false (sym (one twoGates (true ∷ []) (false ∷ false ∷ false ∷ []) fits (label 1 false) .0 (overlaid, overlaid-rows) .1))
+
+pub near-misses : NearMisses
+near-misses =
+    record {
+      without-coins = without-coins;
+      rows-by-value = rows-by-value;
+      without-numbers = without-numbers;
+      overlaid-rows = overlaid-rows;
+      with-all-meanings = with-all-meanings;
+      without-coins-else = (right (λ coins w. false), one-key (λ coins w. false) outputsOnly, seen-by-derivation (λ coins w. false) outputsOnly);
+    }
