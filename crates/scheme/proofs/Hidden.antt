@@ -1,18 +1,18 @@
 -- Inputs with one result are not told apart, by paired coins. Assumes nothing.
 use mathlib.Core.Bool.{Bool}
 use mathlib.Core.List.{List}
-use mathlib.Core.Path.{_≡_, sym, _∙_}
+use mathlib.Core.Path.{_≡_, refl, sym}
 use Prim.Native.Nat.{ℕ, _<_}
 use lib.ListN.{length}
-use Rattle.circuit.specs.Circuit.{Circuit, WellFormed, wireCount, result}
+use Rattle.circuit.specs.Circuit.{Circuit, WellFormed, wireCount, at, result}
 use Rattle.scheme.specs.Coins.{activeColour, pairedCoins}
 use Rattle.scheme.specs.Garbling.{blocks, sent}
-use Rattle.scheme.specs.Promises.{Alike, Matched, HidesInputs}
-use Rattle.scheme.specs.Yao.{yao, outputsOnly}
-use Rattle.circuit.specs.Circuit.{at}
+use Rattle.scheme.specs.Promises.{Alike, HidesInputs}
+use Rattle.scheme.specs.Yao.{byColour, numbered, outputsOnly, yao}
+use Rattle.scheme.proofs.Layouts.{by-colour, by-number}
 use Rattle.scheme.proofs.Marked.{not-told-apart}
 use Rattle.scheme.proofs.Pairs.{pairs, kept-outputs}
-use Rattle.scheme.proofs.Reach.{marking, exchange, sent-becomes}
+use Rattle.scheme.proofs.Reach.{Setting, marking, exchange, sent-becomes}
 use Rattle.scheme.proofs.Views.{view-agrees}
 
 module _ (c : Circuit) (xs ys coins : List Bool) (good : WellFormed c) (xs-fit : length xs ≡ c .inputs) (ys-fit : length ys ≡ c .inputs)
@@ -20,15 +20,18 @@ module _ (c : Circuit) (xs ys coins : List Bool) (good : WellFormed c) (xs-fit :
   pub paired-alike : Alike yao c xs coins ys (pairedCoins c xs ys coins)
   paired-alike =
       let paired = pairedCoins c xs ys coins in
-      let colours = pairs c xs ys coins good xs-fit ys-fit coins-fit .colours in
-      let there : (w : ℕ) → w < wireCount c → activeColour c xs coins w ≡ activeColour c ys paired w = λ w below. sym (colours w below) in
+      let mine : Setting at byColour numbered c xs coins = record { good = good; fit = xs-fit; complete = by-colour c (at coins); naming = by-number c } in
+      let theirs : Setting at byColour numbered c ys paired = record { good = good; fit = ys-fit; complete = by-colour c (at paired); naming = by-number c } in
+      let back = pairs c xs ys coins good xs-fit ys-fit coins-fit .colours in
+      let there : (w : ℕ) → w < wireCount c → activeColour c xs coins w ≡ activeColour c ys paired w = λ w below. sym (back w below) in
       let same = sym (kept-outputs c xs ys coins good xs-fit ys-fit coins-fit one-result) in
       record {
-        view = view-agrees at outputsOnly c good xs ys coins paired xs-fit ys-fit there same;
-        transcripts = not-told-apart (marking at outputsOnly c xs coins) (marking at outputsOnly c ys paired)
-            (exchange at outputsOnly c good xs ys coins paired xs-fit ys-fit there) (exchange at outputsOnly c good ys xs paired coins ys-fit xs-fit colours)
-            (blocks (sent yao c xs coins)) (blocks (sent yao c ys paired))
-            (sent-becomes at outputsOnly c good xs ys coins paired xs-fit ys-fit there) (sent-becomes at outputsOnly c good ys xs paired coins ys-fit xs-fit colours);
+        view = view-agrees at byColour numbered outputsOnly c xs ys coins paired mine theirs there (λ k p. refl) same;
+        transcripts = not-told-apart (marking at byColour numbered outputsOnly c (by-number c) xs coins) (marking at byColour numbered outputsOnly c (by-number c) ys paired)
+            (exchange at byColour numbered outputsOnly c xs ys coins paired mine theirs there (λ k p. refl))
+            (exchange at byColour numbered outputsOnly c ys xs paired coins theirs mine back (λ k p. refl)) (blocks (sent yao c xs coins)) (blocks (sent yao c ys paired))
+            (sent-becomes at byColour numbered outputsOnly c xs ys coins paired mine theirs there (λ k p. refl))
+            (sent-becomes at byColour numbered outputsOnly c ys xs paired coins theirs mine back (λ k p. refl));
         meanings = same;
       }
 

@@ -4,11 +4,14 @@ pub mod Derived
 pub mod Blocks
 mod Tables
 mod Rows
+mod Layouts
 mod Reach
 mod Known
 mod Views
 mod Opens
+mod Schemes
 mod Differences
 mod Pairs
 mod Hidden
 mod Missed
+mod Worked

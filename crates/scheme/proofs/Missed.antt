@@ -5,23 +5,26 @@ use mathlib.Core.Path.{_≡_, refl, sym, ap, _∙_}
 use Prim.Native.Nat.{ℕ, zero, suc, _+_, _<_}
 use native.Mathlib.Omega.{arith}
 use lib.ListN.{length, getD}
+use Rattle.std.specs.Iters.{counting}
 use Rattle.std.proofs.shelf.Tests.{true≢false}
-use Rattle.circuit.specs.Circuit.{Circuit, WellFormed, GoodGates, Below, at, extended, result}
+use Rattle.circuit.specs.Circuit.{Circuit, WellFormed, GoodGates, Below, wireCount, at, extended, result}
 use Rattle.circuit.specs.Numbers.{digits}
 use Rattle.scheme.specs.Coins.{_⊕_}
 use Rattle.scheme.specs.Examples.{conjunction}
 use Rattle.scheme.specs.Garbling.{Label, label, Scheme, Seen, opened, closed, View, blocks, sent, view}
-use Rattle.scheme.specs.NearMisses.{withoutCoins, rowsByValue, withoutNumbers, withAllMeanings, twoGates, overlaid, NearMisses}
+use Rattle.scheme.specs.NearMisses.{withoutCoins, byValue, rowsByValue, unnumbered, withoutNumbers, withAllMeanings, twoGates, overlaid, NearMisses}
 use Rattle.scheme.specs.Promises.{Fits, OneKey, HidesInputs, Matched}
 use Rattle.scheme.specs.Terms.{block, Term, secret, xor, pad, tweak, _then_, same, chain, swap, in-xor, _≈_, substitute, run}
-use Rattle.scheme.specs.Yao.{outputsOnly}
+use Rattle.scheme.specs.Yao.{byColour, outputsOnly}
 use Rattle.scheme.proofs.Colours.{xor-same}
 use Rattle.scheme.proofs.Derived.{off}
-use Rattle.scheme.proofs.Known.{one-key}
+use Rattle.scheme.proofs.Layouts.{by-colour, by-value, one-gate}
 use Rattle.scheme.proofs.Opens.{right}
-use Rattle.scheme.proofs.Views.{seen-by-derivation}
+use Rattle.scheme.proofs.Rows.{Complete}
+use Rattle.scheme.proofs.Schemes.{one-key-of, one-key-numbered, seen-by-derivation}
 
-pub conjunction-formed : WellFormed conjunction
+conjunction-formed : WellFormed conjunction
+unfolding digits
 conjunction-formed = (omega arith, omega arith, omega arith, omega arith, gates, outputs)
   where
     gates : GoodGates 2 (conjunction .gates)
@@ -34,7 +37,7 @@ conjunction-formed = (omega arith, omega arith, omega arith, omega arith, gates,
 
 -- inputs 1 0 and 0 1 have one result
 one-result : result conjunction (true ∷ false ∷ []) ≡ result conjunction (false ∷ true ∷ [])
-unfolding extended
+unfolding extended digits
 one-result = refl
 
 matched : (S : Scheme Label) → HidesInputs S → Matched S conjunction (true ∷ false ∷ []) (false ∷ true ∷ [])
@@ -107,11 +110,18 @@ without-numbers one =
 
 pub near-misses : NearMisses
 near-misses =
+    let none : List Bool → ℕ → Bool = λ coins w. false in
+    let all : Circuit → List ℕ = λ c. counting 0 (wireCount c) in
+    let colours : (coin : List Bool → ℕ → Bool) (c : Circuit) (coins : List Bool) → Complete byColour c (coin coins) = λ coin c coins. by-colour c (coin coins) in
+    let values : (c : Circuit) (coins : List Bool) → Complete byValue c (at coins) = λ c coins. by-value c (at coins) in
     record {
       without-coins = without-coins;
       rows-by-value = rows-by-value;
       without-numbers = without-numbers;
-      overlaid-rows = overlaid-rows;
       with-all-meanings = with-all-meanings;
-      without-coins-else = (right (λ coins w. false), one-key (λ coins w. false) outputsOnly, seen-by-derivation (λ coins w. false) outputsOnly);
+      overlaid-rows = overlaid-rows;
+      one-gate = λ c few. one-key-of at byColour outputsOnly (colours at) unnumbered c (one-gate c few);
+      without-coins-else = (right none, one-key-numbered none byColour outputsOnly (colours none), seen-by-derivation none byColour outputsOnly (colours none));
+      rows-by-value-else = (one-key-numbered at byValue outputsOnly values, seen-by-derivation at byValue outputsOnly values);
+      with-all-meanings-else = (one-key-numbered at byColour all (colours at), seen-by-derivation at byColour all (colours at));
     }

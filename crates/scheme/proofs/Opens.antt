@@ -15,24 +15,16 @@ use Rattle.circuit.specs.Numbers.{binary, bits}
 use Rattle.circuit.specs.declared.gates.Gate.{Gate}
 use Rattle.circuit.proofs.Numbers.{bits-binary, binary-lt}
 use Rattle.scheme.specs.Coins.{_⊕_, colour}
-use Rattle.scheme.specs.Garbling.{Label, label, Row, textOf, tabulate, valueKey, cipher, sent, active}
+use Rattle.scheme.specs.Garbling.{Label, label, Scheme, textOf, tabulate, valueKey, cipher, sent, active}
 use Rattle.scheme.specs.Opening.{xorBytes, colourOf, Hash, Drawn, value, openRow, openGate, heldAt, openGates, decode, evaluate}
 use Rattle.scheme.specs.Promises.{Fits, Coloured, Right}
 use Rattle.scheme.specs.Terms.{block, Term, secret, xor, pad}
-use Rattle.scheme.specs.Yao.{gateAt, rowAt, byColour, numbered, tablesBy, outputsOnly}
+use Rattle.scheme.specs.Yao.{gateAt, rowFor, tablesBy, yaoBy, byColour, numbered, outputsOnly}
 use Rattle.scheme.proofs.Blocks.{sound}
 use Rattle.scheme.proofs.Colours.{xor-back}
 use Rattle.scheme.proofs.Derived.{off}
-use Rattle.scheme.proofs.Reach.{coloured, row, wires-below}
-use Rattle.scheme.proofs.Rows.{gate-wires, coloursOf, keys-of-colours, active-row, input-value}
-use Rattle.scheme.proofs.Tables.{equal-tabulate}
-
--- an entry of what is made from a tabulated list
-entry : {X Y Z : Type 0} (f : Y → Z) (g : X → Y) (h : ℕ → X) (n i : ℕ) (x : X) (y : Y) (z : Z) → i < n → getD (map f (map g (tabulate n h))) i z ≡ f (g (h i))
-entry f g h n i x y z below =
-    let size = length-map-counting h 0 n in
-    getD-map f (map g (tabulate n h)) i y z (omega (arith, length-map (tabulate n h) g))
-    ∙ ap f (getD-map g (tabulate n h) i x y (omega arith) ∙ ap g (getD-map-counting h 0 n i i x below (omega arith)))
+use Rattle.scheme.proofs.Rows.{input-value, gate-wires, wires-below, coloursOf, keys-of-colours, active-row}
+use Rattle.scheme.proofs.Tables.{entry, equal-tabulate}
 
 text-value : (d : Drawn Label) (ks : List Label) (ns : List ℕ) → value d (textOf (map secret ks) ns) ≡ (map (d .secrets) ks, ns)
 unfolding value
@@ -46,12 +38,15 @@ taken-off d t u = sound d block (xor (xor t u) u) t (off t u)
 
 module _ (coin : List Bool → ℕ → Bool) (c : Circuit) (good : WellFormed c) (xs coins : List Bool) (fit : length xs ≡ c .inputs) (d : Drawn Label)
     (shown : (k : Label) → k .wire < wireCount c → colourOf (d .secrets k) ≡ k .colour) where
+  abbrev S : Scheme Label
+  S = yaoBy coin byColour numbered outputsOnly
+
   -- the bytes of the active key of a wire
   abbrev held : ℕ → List ℕ
-  held w = d .secrets (active (coloured coin outputsOnly) c xs coins w)
+  held w = d .secrets (active S c xs coins w)
 
   abbrev tables : List (List (List ℕ))
-  tables = map (map (λ t. value d t)) (map (map (cipher (coloured coin outputsOnly) c coins)) (tablesBy byColour numbered c (coin coins)))
+  tables = map (map (λ t. value d t)) (map (map (cipher S c coins)) (tablesBy byColour numbered c (coin coins)))
 
   held-of : (n : ℕ) (ws : List ℕ) → All (λ w. w < n) ws → heldAt (tabulate n held) ws ≡ map held ws
   held-of n [] all = refl
@@ -59,9 +54,9 @@ module _ (coin : List Bool → ℕ → Bool) (c : Circuit) (good : WellFormed c)
 
   colours-held : (ws : List ℕ) → All (λ w. w < wireCount c) ws → map colourOf (map held ws) ≡ coloursOf (coin coins) (values c xs) ws
   colours-held [] all = refl
-  colours-held (w ∷ ws) all = ap₂ (λ (b : Bool) (bs : List Bool). b ∷ bs) (shown (active (coloured coin outputsOnly) c xs coins w) (all .0)) (colours-held ws (all .1))
+  colours-held (w ∷ ws) all = ap₂ (λ (b : Bool) (bs : List Bool). b ∷ bs) (shown (active S c xs coins w) (all .0)) (colours-held ws (all .1))
 
-  secrets-held : (ws : List ℕ) → map (d .secrets) (map (active (coloured coin outputsOnly) c xs coins) ws) ≡ map held ws
+  secrets-held : (ws : List ℕ) → map (d .secrets) (map (active S c xs coins) ws) ≡ map held ws
   secrets-held [] = refl
   secrets-held (w ∷ ws) = ap (λ ks. held w ∷ ks) (secrets-held ws)
 
@@ -76,16 +71,17 @@ module _ (coin : List Bool → ℕ → Bool) (c : Circuit) (good : WellFormed c)
     sized = length-map wires (λ w. colour (coin coins w) (at (values c xs) w))
 
     -- the row that the colours name
-    row-there : getD (getD tables k []) (binary colours) [] ≡ value d (cipher (coloured coin outputsOnly) c coins (row coin outputsOnly c coins k colours))
+    row-there : getD (getD tables k []) (binary colours) [] ≡ value d (cipher S c coins (rowFor numbered c (coin coins) k colours))
     row-there =
         let n = length wires in
         let small : binary colours < 2 ^ n = rw sized at (binary-lt colours) in
         ap (λ rows. getD rows (binary colours) [])
-        (entry (map (λ t. value d t)) (map (cipher (coloured coin outputsOnly) c coins)) (λ k. tabulate (2 ^ length (gateAt c k .wires)) (rowAt byColour numbered c (coin coins) k))
-        (length (c .gates)) k [] [] [] below)
-        ∙ entry (λ t. value d t) (cipher (coloured coin outputsOnly) c coins) (rowAt byColour numbered c (coin coins) k) (2 ^ n) (binary colours)
-        (row coin outputsOnly c coins 0 []) (secret (label 0 false)) [] small
-        ∙ ap (λ cs. value d (cipher (coloured coin outputsOnly) c coins (row coin outputsOnly c coins k cs))) (bits-binary n colours sized)
+        (ap (λ tables. getD tables k []) (map-map (map (λ t. value d t)) (map (cipher S c coins)) (tablesBy byColour numbered c (coin coins)))
+        ∙ entry (λ rows. map (λ t. value d t) (map (cipher S c coins) rows)) (λ k. tabulate (2 ^ length (gateAt c k .wires)) (λ p. rowFor numbered c (coin coins) k (byColour (coin coins) (gateAt c k) p)))
+        (length (c .gates)) k [] below)
+        ∙ ap (λ rows. getD rows (binary colours) []) (map-map (λ t. value d t) (cipher S c coins) (tabulate (2 ^ n) (λ p. rowFor numbered c (coin coins) k (byColour (coin coins) (gateAt c k) p))))
+        ∙ entry (λ r. value d (cipher S c coins r)) (λ p. rowFor numbered c (coin coins) k (byColour (coin coins) (gateAt c k) p)) (2 ^ n) (binary colours) [] small
+        ∙ ap (λ cs. value d (cipher S c coins (rowFor numbered c (coin coins) k cs))) (bits-binary n colours sized)
 
     -- its pad
     pad-there : d .hash (map held wires) (numbered k colours) ≡ value d (pad (textOf (map secret (zipWith label wires colours)) (numbered k colours)))
@@ -99,10 +95,10 @@ module _ (coin : List Bool → ℕ → Bool) (c : Circuit) (good : WellFormed c)
     unfolding value
     gate-opens =
         ap (λ ks. openGate (d .hash) k ks (getD tables k [])) (held-of (c .inputs + k) wires (gate-wires c good k below))
-        ∙ ap (λ cs. openRow (d .hash) k (map held wires) (getD tables k []) (binary cs)) (colours-held wires (wires-below coin outputsOnly c good xs xs coins coins fit fit (λ w small. refl) k below))
+        ∙ ap (λ cs. openRow (d .hash) k (map held wires) (getD tables k []) (binary cs)) (colours-held wires (wires-below c good k below))
         ∙ ap₂ xorBytes row-there pad-there
-        ∙ taken-off d (secret (row coin outputsOnly c coins k colours .holds)) (pad (textOf (map secret (zipWith label wires colours)) (numbered k colours)))
-        ∙ ap (d .secrets) (active-row c good xs fit (coin coins) k below (numbered k colours))
+        ∙ taken-off d (secret (rowFor numbered c (coin coins) k colours .holds)) (pad (textOf (map secret (zipWith label wires colours)) (numbered k colours)))
+        ∙ ap (d .secrets) (active-row numbered c good xs fit (coin coins) k below)
 
   -- gate after gate
   gates-open : (n k : ℕ) → k + n ≡ length (c .gates) → openGates (d .hash) k (drop k (c .gates)) (drop k tables) (tabulate (c .inputs + k) held) ≡ tabulate (wireCount c) held
@@ -129,23 +125,23 @@ module _ (coin : List Bool → ℕ → Bool) (c : Circuit) (good : WellFormed c)
   outputs-decode (w ∷ ws) all =
       ap₂ (λ (b : Bool) (bs : List Bool). b ∷ bs)
       (ap (λ key. colour (coin coins w) (colourOf key)) (getD-map-counting held 0 (wireCount c) w w [] (all .0) (omega arith))
-      ∙ ap (colour (coin coins w)) (shown (active (coloured coin outputsOnly) c xs coins w) (all .0)) ∙ xor-back (coin coins w) (at (values c xs) w))
+      ∙ ap (colour (coin coins w)) (shown (active S c xs coins w) (all .0)) ∙ xor-back (coin coins w) (at (values c xs) w))
       (outputs-decode ws (all .1))
 
-  inputs-held : map (λ t. value d t) (sent (coloured coin outputsOnly) c xs coins .keys) ≡ tabulate (c .inputs + 0) held
+  inputs-held : map (λ t. value d t) (sent S c xs coins .keys) ≡ tabulate (c .inputs + 0) held
   unfolding value
   inputs-held =
-      map-map (λ t. value d t) (λ w. secret (valueKey (coloured coin outputsOnly) c coins w (at xs w))) (counting 0 (c .inputs))
-      ∙ equal-tabulate (λ w. d .secrets (valueKey (coloured coin outputsOnly) c coins w (at xs w))) held (c .inputs)
-      (λ w below. ap (λ v. d .secrets (valueKey (coloured coin outputsOnly) c coins w v)) (sym (input-value c good xs fit w below)))
+      map-map (λ t. value d t) (λ w. secret (valueKey S c coins w (at xs w))) (counting 0 (c .inputs))
+      ∙ equal-tabulate (λ w. d .secrets (valueKey S c coins w (at xs w))) held (c .inputs)
+      (λ w below. ap (λ v. d .secrets (valueKey S c coins w v)) (sym (input-value c good xs fit w below)))
       ∙ ap (λ n. tabulate n held) (omega arith)
 
-  opened : evaluate (d .hash) c (map (λ t. value d t) (sent (coloured coin outputsOnly) c xs coins .keys)) tables (map (coin coins) (c .outputs)) ≡ result c xs
+  opened : evaluate (d .hash) c (map (λ t. value d t) (sent S c xs coins .keys)) tables (map (coin coins) (c .outputs)) ≡ result c xs
   opened =
       ap (λ ks. decode (map (coin coins) (c .outputs)) (heldAt ks (c .outputs))) (ap (openGates (d .hash) 0 (c .gates) tables) inputs-held ∙ gates-open (length (c .gates)) 0 (omega arith))
       ∙ outputs-decode (c .outputs) (all-from-getD (λ w. w < wireCount c) (c .outputs) 0 (good .5))
 
--- also for a scheme that turns no colour over, or others than the coins drawn
-pub right : (coin : List Bool → ℕ → Bool) → Right (coloured coin outputsOnly)
+-- whatever coin a wire goes by
+pub right : (coin : List Bool → ℕ → Bool) → Right (yaoBy coin byColour numbered outputsOnly)
 unfolding value
 right coin c xs coins fits d shown = opened coin c (fits .well-formed) xs coins (fits .inputs) d shown

@@ -1,18 +1,23 @@
 -- Lists made place by place: what holds at each place holds side by side, and what stands at a place is a member. Assumes nothing.
 use mathlib.Core.Bool.{Bool}
-use mathlib.Core.List.{List, [], _∷_, _++_, map, flatten, Forall₂, Forall₂·nil, Forall₂·cons, List·Memᴰ, List·Memᴰ·head, List·Memᴰ·tail, List·Memᴰ·not-nil, List·Memᴰ·cases-cons, Memᴰ·append-left, Memᴰ·append-right}
+use mathlib.Core.List.{List, [], _∷_, map, map-map, flatten, Forall₂, Forall₂·nil, Forall₂·cons, List·Memᴰ, List·Memᴰ·head, List·Memᴰ·tail, List·Memᴰ·not-nil, List·Memᴰ·cases-cons, Memᴰ·append-left, Memᴰ·append-right, Memᴰ·map}
 use mathlib.Core.Logic.{_⊎_, inl, inr}
-use mathlib.Core.Path.{_≡_, refl, sym, ap, ap₂, subst}
+use mathlib.Core.Path.{_≡_, refl, sym, ap, ap₂, subst, _∙_}
 use mathlib.Mathlib.Data.List.Forall2.{forall₂-eq-eq-eq}
 use Prim.Native.Nat.{ℕ, zero, suc, _+_, _^_, _<_}
 use native.Mathlib.Nat.{add-zero}
 use native.Mathlib.Omega.{arith}
 use lib.ListN.{length, getD}
 use Rattle.std.specs.Iters.{counting}
+use Rattle.std.proofs.shelf.Counted.{getD-map-counting}
 use Rattle.circuit.specs.Circuit.{Circuit}
 use Rattle.scheme.specs.Garbling.{Row, tabulate}
-use Rattle.scheme.specs.Yao.{gateAt, Order, Tweak, rowAt, tablesBy}
+use Rattle.scheme.specs.Yao.{gateAt, Order, Tweak, rowFor, tablesBy}
 
+pub entry : {X Y : Type 0} (f : X → Y) (h : ℕ → X) (n i : ℕ) (d : Y) → i < n → getD (map f (tabulate n h)) i d ≡ f (h i)
+entry f h n i d below = ap (λ ys. getD ys i d) (map-map f h (counting 0 n)) ∙ getD-map-counting (λ i. f (h i)) 0 n i i d below (omega arith)
+
+-- side by side
 module _ {X Y : Type 0} (R : X → Y → Type 0) (f : ℕ → X) (g : ℕ → Y) where
   counted-beside : (a n : ℕ) → ((i : ℕ) → i < n → R (f (a + i)) (g (a + i))) → Forall₂ R (map f (counting a n)) (map g (counting a n))
   counted-beside a zero h = Forall₂·nil
@@ -23,20 +28,8 @@ module _ {X Y : Type 0} (R : X → Y → Type 0) (f : ℕ → X) (g : ℕ → Y)
   pub tabulate-beside : (n : ℕ) → ((i : ℕ) → i < n → R (f i) (g i)) → Forall₂ R (tabulate n f) (tabulate n g)
   tabulate-beside n h = counted-beside 0 n (λ i below. let e : 0 + i ≡ i = omega arith in rw e (h i below))
 
--- the tables of two runs, row by row
-pub tables-beside : (R : Row → Row → Type 0) (order : Order) (tweak : Tweak) (c : Circuit) (coin other : ℕ → Bool) →
-    ((k : ℕ) → k < length (c .gates) → (p : ℕ) → p < 2 ^ length (gateAt c k .wires) → R (rowAt order tweak c coin k p) (rowAt order tweak c other k p)) →
-    Forall₂ (Forall₂ R) (tablesBy order tweak c coin) (tablesBy order tweak c other)
-tables-beside R order tweak c coin other h =
-    tabulate-beside (Forall₂ R) (λ k. tabulate (rows k) (rowAt order tweak c coin k)) (λ k. tabulate (rows k) (rowAt order tweak c other k)) (length (c .gates))
-    (λ k below. tabulate-beside R (rowAt order tweak c coin k) (rowAt order tweak c other k) (rows k) (h k below))
-  where
-    rows : ℕ → ℕ
-    rows k = 2 ^ length (gateAt c k .wires)
-
--- with a function on each side, or on the second alone
 module _ {X Y Z W : Type 0} (R : Z → W → Type 0) (f : X → Z) (g : Y → W) where
-  pub map-beside : {xs : List X} {ys : List Y} → Forall₂ (λ x y. R (f x) (g y)) xs ys → Forall₂ R (map f xs) (map g ys)
+  map-beside : {xs : List X} {ys : List Y} → Forall₂ (λ x y. R (f x) (g y)) xs ys → Forall₂ R (map f xs) (map g ys)
   map-beside Forall₂·nil = Forall₂·nil
   map-beside (Forall₂·cons h t) = Forall₂·cons h (map-beside t)
 
@@ -52,6 +45,17 @@ module _ {X Y Z : Type 0} (R : X → Z → Type 0) (g : Y → Z) where
   pub beside-map-map : {xss : List (List X)} {yss : List (List Y)} → Forall₂ (Forall₂ (λ x y. R x (g y))) xss yss → Forall₂ (Forall₂ R) xss (map (map g) yss)
   beside-map-map Forall₂·nil = Forall₂·nil
   beside-map-map (Forall₂·cons h t) = Forall₂·cons (beside-map h) (beside-map-map t)
+
+-- what is equal place by place is equal
+equal-beside : {X : Type 0} {xs ys : List X} → Forall₂ (λ x y. x ≡ y) xs ys → xs ≡ ys
+equal-beside h = forall₂-eq-eq-eq .0 h
+
+pub equal-tables : {X : Type 0} {xss yss : List (List X)} → Forall₂ (Forall₂ (λ x y. x ≡ y)) xss yss → xss ≡ yss
+equal-tables Forall₂·nil = refl
+equal-tables (Forall₂·cons h t) = ap₂ (λ ls rest. ls ∷ rest) (equal-beside h) (equal-tables t)
+
+pub equal-tabulate : {X : Type 0} (f g : ℕ → X) (n : ℕ) → ((i : ℕ) → i < n → f i ≡ g i) → tabulate n f ≡ tabulate n g
+equal-tabulate f g n h = equal-beside (tabulate-beside (λ x y. x ≡ y) f g n h)
 
 -- members
 pub member-beside : {X Y : Type 0} (P : Y → Type 0) {xs : List X} {ys : List Y} {y : Y} → Forall₂ (λ x y. P y) xs ys → List·Memᴰ y ys → P y
@@ -70,18 +74,34 @@ counted-member f a (suc n) (suc i) below = let e : a + suc i ≡ a + 1 + i = ome
 pub tabulate-member : {X : Type 0} (f : ℕ → X) (n i : ℕ) → i < n → List·Memᴰ (f i) (tabulate n f)
 tabulate-member f n i below = let e : 0 + i ≡ i = omega arith in rw e at (counted-member f 0 n i below)
 
-pub flatten-member : {X : Type 0} {x : X} {xs : List X} {xss : List (List X)} → List·Memᴰ x xs → List·Memᴰ xs xss → List·Memᴰ x (flatten xss)
+flatten-member : {X : Type 0} {x : X} {xs : List X} {xss : List (List X)} → List·Memᴰ x xs → List·Memᴰ xs xss → List·Memᴰ x (flatten xss)
 unfolding flatten
-flatten-member {x = x} {xs = xs} m (List·Memᴰ·head {x = ys} {xs = yss} e) = Memᴰ·append-left (flatten yss) (subst (λ zs. List·Memᴰ x zs) e m)
+flatten-member {x = x} m (List·Memᴰ·head {xs = yss} e) = Memᴰ·append-left (flatten yss) (subst (λ zs. List·Memᴰ x zs) e m)
 flatten-member m (List·Memᴰ·tail {x = ys} n) = Memᴰ·append-right ys (flatten-member m n)
 
--- what is equal place by place is equal
-equal-beside : {X : Type 0} {xs ys : List X} → Forall₂ (λ x y. x ≡ y) xs ys → xs ≡ ys
-equal-beside h = forall₂-eq-eq-eq .0 h
+-- tables of gates
+module _ (order : Order) (tweak : Tweak) (c : Circuit) where
+  -- those of two runs, row by row
+  pub tables-beside : (R : Row → Row → Type 0) (coin other : ℕ → Bool) →
+      ((k : ℕ) → k < length (c .gates) → (p : ℕ) → R (rowFor tweak c coin k (order coin (gateAt c k) p)) (rowFor tweak c other k (order other (gateAt c k) p))) →
+      Forall₂ (Forall₂ R) (tablesBy order tweak c coin) (tablesBy order tweak c other)
+  tables-beside R coin other h =
+      tabulate-beside (Forall₂ R) (λ k. tabulate (rows k) (mine k)) (λ k. tabulate (rows k) (theirs k)) (length (c .gates))
+      (λ k below. tabulate-beside R (mine k) (theirs k) (rows k) (λ p small. h k below p))
+    where
+      rows : ℕ → ℕ
+      rows k = 2 ^ length (gateAt c k .wires)
 
-pub equal-tables : {X : Type 0} {xss yss : List (List X)} → Forall₂ (Forall₂ (λ x y. x ≡ y)) xss yss → xss ≡ yss
-equal-tables Forall₂·nil = refl
-equal-tables (Forall₂·cons h t) = ap₂ (λ ls rest. ls ∷ rest) (equal-beside h) (equal-tables t)
+      mine : ℕ → ℕ → Row
+      mine k p = rowFor tweak c coin k (order coin (gateAt c k) p)
 
-pub equal-tabulate : {X : Type 0} (f g : ℕ → X) (n : ℕ) → ((i : ℕ) → i < n → f i ≡ g i) → tabulate n f ≡ tabulate n g
-equal-tabulate f g n h = equal-beside (tabulate-beside (λ x y. x ≡ y) f g n h)
+      theirs : ℕ → ℕ → Row
+      theirs k p = rowFor tweak c other k (order other (gateAt c k) p)
+
+  -- each row stands there, whatever is made of it
+  pub row-member : {X : Type 0} (f : Row → X) (coin : ℕ → Bool) (k p : ℕ) → k < length (c .gates) → p < 2 ^ length (gateAt c k .wires) →
+      List·Memᴰ (f (rowFor tweak c coin k (order coin (gateAt c k) p))) (flatten (map (map f) (tablesBy order tweak c coin)))
+  row-member f coin k p below small =
+      flatten-member (Memᴰ·map f (tabulate-member (λ p. rowFor tweak c coin k (order coin (gateAt c k) p)) (2 ^ length (gateAt c k .wires)) p small))
+      (Memᴰ·map (map f)
+      (tabulate-member (λ k. tabulate (2 ^ length (gateAt c k .wires)) (λ p. rowFor tweak c coin k (order coin (gateAt c k) p))) (length (c .gates)) k below))

@@ -1,8 +1,61 @@
 -- Worked examples. Assumes nothing.
-use mathlib.Core.Bool.{true, false}
-use mathlib.Core.List.{[], _∷_}
-use Rattle.circuit.specs.Circuit.{Circuit}
+use mathlib.Core.Bool.{Bool, true, false}
+use mathlib.Core.List.{List, [], _∷_}
+use mathlib.Core.Path.{_≡_}
+use Prim.Native.Nat.{ℕ, _<_}
+use lib.ListN.{length, getD}
+use Rattle.std.specs.shelf.Lists.{All}
+use Rattle.circuit.specs.Circuit.{Circuit, atAll, result}
+use Rattle.circuit.specs.Numbers.{bits}
+use Rattle.scheme.specs.Coins.{pairedCoins}
+use Rattle.scheme.specs.Garbling.{label, Seen, opened, closed, view}
+use Rattle.scheme.specs.Yao.{gateAt, yao}
+
+-- a run, what is seen of its rows, and its result
+pub record Example : Type 0 where
+  pub circuit : Circuit
+  pub inputs : List Bool
+  pub coins : List Bool
+  pub rows : List (List Seen)
+  pub result : List Bool
+
+abbrev pub Works : Example → Type 0
+Works e = (view yao (e .circuit) (e .inputs) (e .coins) .rows ≡ e .rows) × (result (e .circuit) (e .inputs) ≡ e .result)
 
 -- one gate, and
 abbrev pub conjunction : Circuit
-conjunction = record { inputs = 2; opener = 0; gates = record { wires = 0 ∷ 1 ∷ []; gives = false ∷ false ∷ false ∷ true ∷ [] } ∷ []; outputs = 2 ∷ [] }
+conjunction = record { inputs = 2; opener = 0; gates = record { wires = 0 ∷ 1 ∷ []; gives = bits 4 0b0001 } ∷ []; outputs = 2 ∷ [] }
+
+-- no gate
+abbrev pub crossing : Circuit
+crossing = record { inputs = 2; opener = 1; gates = []; outputs = 1 ∷ 0 ∷ 1 ∷ [] }
+
+-- one gate that takes one wire twice
+abbrev pub doubled : Circuit
+doubled = record { inputs = 1; opener = 0; gates = record { wires = 0 ∷ 0 ∷ []; gives = bits 4 0b0001 } ∷ []; outputs = 1 ∷ [] }
+
+abbrev pub examples : List Example
+examples =
+    -- row 1 1 opens to colour 1
+    record { circuit = conjunction; inputs = bits 2 0b11; coins = bits 3 0b000; rows = (closed ∷ closed ∷ closed ∷ opened (label 2 true) ∷ []) ∷ []; result = bits 1 1 }
+    -- with other coins row 0 1 opens to colour 0, for the same result
+    ∷ record { circuit = conjunction; inputs = bits 2 0b11; coins = bits 3 0b101; rows = (closed ∷ opened (label 2 false) ∷ closed ∷ closed ∷ []) ∷ []; result = bits 1 1 }
+    -- two inputs with one result and paired coins: row 1 0 opens to colour 0 in both
+    ∷ record { circuit = conjunction; inputs = bits 2 0b10; coins = bits 3 0b000; rows = (closed ∷ closed ∷ opened (label 2 false) ∷ closed ∷ []) ∷ []; result = bits 1 0 }
+    ∷ record { circuit = conjunction; inputs = bits 2 0b01; coins = bits 3 0b110; rows = (closed ∷ closed ∷ opened (label 2 false) ∷ closed ∷ []) ∷ []; result = bits 1 0 }
+    -- no gate: outputs are inputs
+    ∷ record { circuit = crossing; inputs = bits 2 0b01; coins = bits 2 0b10; rows = []; result = bits 3 0b101 }
+    -- the same wire twice: rows 0 1 and 1 0 stay closed
+    ∷ record { circuit = doubled; inputs = bits 1 0; coins = bits 2 0b01; rows = (opened (label 1 true) ∷ closed ∷ closed ∷ closed ∷ []) ∷ []; result = bits 1 0 }
+    ∷ record { circuit = doubled; inputs = bits 1 1; coins = bits 2 0b01; rows = (closed ∷ closed ∷ closed ∷ opened (label 1 false) ∷ []) ∷ []; result = bits 1 1 }
+    ∷ []
+
+pub record WorkedExamples : Type 0 where
+  pub work : All Works examples
+  -- the coins of the two inputs with one result are paired
+  pub paired : pairedCoins conjunction (bits 2 0b10) (bits 2 0b01) (bits 3 0b000) ≡ bits 3 0b110
+  -- without gates the result is some of the inputs
+  pub no-gate : (c : Circuit) → c .gates ≡ [] → (xs : List Bool) → result c xs ≡ atAll xs (c .outputs)
+  -- where a gate takes one wire twice, rows 0 1 and 1 0 never open
+  pub never-open : (c : Circuit) (k w : ℕ) → k < length (c .gates) → gateAt c k .wires ≡ w ∷ w ∷ [] → (xs coins : List Bool) (s : Seen) →
+      (getD (getD (view yao c xs coins .rows) k []) 0b01 s ≡ closed) × (getD (getD (view yao c xs coins .rows) k []) 0b10 s ≡ closed)

@@ -7,4 +7,5 @@ pub mod Opening
 pub mod Promises
 pub mod NearMisses
 pub mod Examples
+pub mod Statement
 pub mod Outcome

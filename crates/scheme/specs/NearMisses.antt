@@ -1,13 +1,13 @@
 -- Schemes that come near: each decides one thing otherwise, and breaks a promise. Assumes nothing.
 use mathlib.Core.Bool.{true, false}
 use mathlib.Core.List.{List, [], _∷_}
-use Prim.Native.Nat.{ℕ}
+use Prim.Native.Nat.{_≤_}
 use lib.ListN.{length}
 use Rattle.std.specs.Iters.{counting}
 use Rattle.circuit.specs.Circuit.{Circuit, wireCount, at}
 use Rattle.circuit.specs.Numbers.{binary, bits}
 use Rattle.scheme.specs.Garbling.{Label, label, Scheme, blocks, sent}
-use Rattle.scheme.specs.Promises.{Right, OneKey, SeenByDerivation, HidesInputs}
+use Rattle.scheme.specs.Promises.{Right, OneKeyOf, OneKey, SeenByDerivation, HidesInputs}
 use Rattle.scheme.specs.Terms.{block, secret, xor, pad, tweak, _then_, _≈_, Recipe, run}
 use Rattle.scheme.specs.Yao.{Order, Tweak, turned, byColour, numbered, yaoBy, outputsOnly}
 
@@ -51,13 +51,16 @@ twoGates =
 abbrev pub overlaid : Recipe block
 overlaid = xor (secret 1) (xor (secret 5) (xor (secret 8) (pad (secret 0 then secret 0 then tweak (3 ∷ [])))))
 
--- the promise that each breaks
 pub record NearMisses : Type 0 where
+  -- the promise that each breaks
   pub without-coins : HidesInputs withoutCoins → ⊥
   pub rows-by-value : HidesInputs rowsByValue → ⊥
   pub without-numbers : OneKey withoutNumbers → ⊥
-  -- for input 1 and no coin turned: the key of 0 of the first gate's wire, whose value is 1
-  pub overlaid-rows : run (blocks (sent withoutNumbers twoGates (true ∷ []) (false ∷ false ∷ false ∷ []))) overlaid ≈ secret (label 1 false)
   pub with-all-meanings : HidesInputs withAllMeanings → ⊥
-  -- no other promise tells the one without coins: its results are right
+  -- without numbers: the key of 0 of the first gate's wire comes out, whose value is 1; fewer gates than two are safe
+  pub overlaid-rows : run (blocks (sent withoutNumbers twoGates (true ∷ []) (false ∷ false ∷ false ∷ []))) overlaid ≈ secret (label 1 false)
+  pub one-gate : (c : Circuit) → length (c .gates) ≤ 1 → OneKeyOf withoutNumbers c
+  -- and what else holds of the others: neither results nor keys tell them from the scheme that is meant
   pub without-coins-else : Right withoutCoins × OneKey withoutCoins × SeenByDerivation withoutCoins
+  pub rows-by-value-else : OneKey rowsByValue × SeenByDerivation rowsByValue
+  pub with-all-meanings-else : OneKey withAllMeanings × SeenByDerivation withAllMeanings

@@ -38,11 +38,13 @@ module _ {A : Type 0} (S : Scheme A) where
   abbrev pub Known : Circuit → List Bool → List Bool → Label → Type 0
   Known c xs coins k = Derives (blocks (sent S c xs coins)) (S .key c coins k)
 
+  abbrev pub OneKeyOf : Circuit → Type 0
+  OneKeyOf c =
+      (xs coins : List Bool) → Fits c xs coins → (k : Label) → Known c xs coins k ↔ ((k .wire < wireCount c) × (k .colour ≡ active S c xs coins (k .wire) .colour))
+
   -- 2. One key: the keys that can be derived are, of each wire of the circuit, that of its value, and no other.
   abbrev pub OneKey : Type 0
-  OneKey =
-      (c : Circuit) (xs coins : List Bool) → Fits c xs coins → (k : Label) →
-      Known c xs coins k ↔ ((k .wire < wireCount c) × (k .colour ≡ active S c xs coins (k .wire) .colour))
+  OneKey = (c : Circuit) → OneKeyOf c
 
   -- a row is seen open, with the key in it, where all its keys can be derived, and closed where they cannot
   pub data SeenAs (c : Circuit) (xs coins : List Bool) (r : Row) : Seen → Type 0 where

@@ -1,4 +1,5 @@
--- Yao's scheme with point and permute: a row for each choice of colours, in the order of colours, closed with the gate's number besides. Assumes nothing.
+-- Yao's scheme with point and permute: for each gate a row for each choice of colours, in the order of colours, closed with the gate's number besides its
+-- keys. Assumes nothing.
 use mathlib.Core.Bool.{Bool}
 use mathlib.Core.List.{List, [], _∷_, zipWith}
 use Prim.Native.Nat.{ℕ, _+_, _^_}
@@ -10,44 +11,34 @@ use Rattle.scheme.specs.Coins.{colour}
 use Rattle.scheme.specs.Garbling.{Label, label, Row, Scheme, tabulate}
 use Rattle.scheme.specs.Terms.{secret}
 
+abbrev pub gateAt : Circuit → ℕ → Gate
+gateAt c k = getD (c .gates) k noGate
+
 -- colours of some wires' keys from their values, or the values from the colours: each is turned over where the wire's coin is 1
 abbrev pub turned : (coin : ℕ → Bool) → List ℕ → List Bool → List Bool
 turned coin ws bs = zipWith (λ w b. colour (coin w) b) ws bs
 
--- the row that opens for keys of some colours: it holds the key of what the gate gives for the values that those colours mean; w is the gate's own wire
-abbrev pub rowFor : (coin : ℕ → Bool) → ℕ → Gate → List ℕ → List Bool → Row
-rowFor coin w g ns cs =
+-- the numbers that close a row of gate k besides its keys, whose colours are given
+abbrev pub Tweak : Type 0
+Tweak = (k : ℕ) → List Bool → List ℕ
+
+-- the row of gate k that opens for keys of some colours: it holds the key of what the gate gives for the values that those colours mean
+abbrev pub rowFor : Tweak → Circuit → (coin : ℕ → Bool) → ℕ → List Bool → Row
+rowFor tweak c coin k cs =
     record {
-      keys = zipWith label (g .wires) cs;
-      tweak = ns;
-      holds = label w (colour (coin w) (at (g .gives) (binary (turned coin (g .wires) cs))));
+      keys = zipWith label (gateAt c k .wires) cs;
+      tweak = tweak k cs;
+      holds = label (c .inputs + k) (colour (coin (c .inputs + k)) (at (gateAt c k .gives) (binary (turned coin (gateAt c k .wires) cs))));
     }
 
--- which colours open the row at place p of a gate's table
+-- the colours that open the row at place p of a gate's table
 abbrev pub Order : Type 0
-Order = (coin : ℕ → Bool) → Gate → ℕ → List Bool
+Order = (coin : ℕ → Bool) → Gate → (p : ℕ) → List Bool
 
--- the numbers that close row cs of gate k besides its keys
-abbrev pub Tweak : Type 0
-Tweak = ℕ → List Bool → List ℕ
-
-abbrev pub gateAt : Circuit → ℕ → Gate
-gateAt c k = getD (c .gates) k noGate
-
-abbrev pub rowAt : Order → Tweak → Circuit → (coin : ℕ → Bool) → ℕ → ℕ → Row
-rowAt order tweak c coin k p = rowFor coin (c .inputs + k) (gateAt c k) (tweak k (order coin (gateAt c k) p)) (order coin (gateAt c k) p)
-
--- the tables of all gates, with a row for each choice of colours
+-- for each gate a row for each choice of colours
 abbrev pub tablesBy : Order → Tweak → Circuit → (coin : ℕ → Bool) → List (List Row)
-tablesBy order tweak c coin = tabulate (length (c .gates)) (λ k. tabulate (2 ^ length (gateAt c k .wires)) (rowAt order tweak c coin k))
-
--- rows stand in the order of their keys' colours, which are the place's own bits
-abbrev pub byColour : Order
-byColour coin g p = bits (length (g .wires)) p
-
--- a row is closed with its gate's number and its place
-abbrev pub numbered : Tweak
-numbered k cs = k ∷ binary cs ∷ []
+tablesBy order tweak c coin =
+    tabulate (length (c .gates)) (λ k. tabulate (2 ^ length (gateAt c k .wires)) (λ p. rowFor tweak c coin k (order coin (gateAt c k) p)))
 
 -- the scheme by four decisions: the coin that a wire goes by, the order of rows, what closes them besides their keys, and the wires whose meanings are sent
 abbrev pub yaoBy : (coin : List Bool → ℕ → Bool) → Order → Tweak → (decoded : Circuit → List ℕ) → Scheme Label
@@ -60,8 +51,18 @@ yaoBy coin order tweak decoded =
       decoded = decoded;
     }
 
+-- rows stand in the order of their keys' colours: those are the bits of the place
+abbrev pub byColour : Order
+byColour coin g p = bits (length (g .wires)) p
+
+-- a row is closed with its gate's number and its place
+abbrev pub numbered : Tweak
+numbered k cs = k ∷ binary cs ∷ []
+
+-- only outputs have meanings
 abbrev pub outputsOnly : Circuit → List ℕ
 outputsOnly c = c .outputs
 
+-- each wire goes by a coin of its own
 abbrev pub yao : Scheme Label
 yao = yaoBy at byColour numbered outputsOnly

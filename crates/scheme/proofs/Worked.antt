@@ -1,0 +1,114 @@
+-- The worked examples, and the whole statement. Assumes nothing.
+use mathlib.Core.Bool.{Bool, true, false, cond, _&&_, not}
+use mathlib.Core.List.{List, [], _∷_, _++_, map, zipWith}
+use mathlib.Core.Path.{_≡_, refl, ap, _∙_}
+use Prim.Native.Nat.{ℕ, _+_, _*_, _^_, _<_}
+use native.Mathlib.Omega.{arith}
+use lib.ListN.{length, getD, replicate}
+use Rattle.std.specs.shelf.Lists.{All}
+use Rattle.circuit.specs.Circuit.{Circuit, at, atAll, extended, values, result}
+use Rattle.circuit.specs.Numbers.{bit, bits, digits}
+use Rattle.scheme.specs.Coins.{_⊕_, colour}
+use Rattle.scheme.specs.Examples.{Works, examples, WorkedExamples}
+use Rattle.scheme.specs.Garbling.{Label, label, Row, Seen, opened, closed, view, look, allActive, tabulate}
+use Rattle.scheme.specs.Opening.{Drawn, colourOf, value}
+use Rattle.scheme.specs.Promises.{Secure, Coloured}
+use Rattle.scheme.specs.Statement.{Statement}
+use Rattle.scheme.specs.Yao.{gateAt, rowFor, byColour, numbered, outputsOnly, yao}
+use Rattle.scheme.proofs.Blocks.{sound}
+use Rattle.scheme.proofs.Derived.{deduction}
+use Rattle.scheme.proofs.Hidden.{hides-inputs}
+use Rattle.scheme.proofs.Layouts.{by-colour}
+use Rattle.scheme.proofs.Marked.{out-of-reach, not-told-apart}
+use Rattle.scheme.proofs.Missed.{near-misses}
+use Rattle.scheme.proofs.Opens.{right}
+use Rattle.scheme.proofs.Schemes.{one-key-numbered, seen-by-derivation}
+use Rattle.scheme.proofs.Tables.{entry}
+
+examples-work : All Works examples
+unfolding extended zipWith digits
+examples-work = ((refl, refl), ((refl, refl), ((refl, refl), ((refl, refl), ((refl, refl), ((refl, refl), ((refl, refl), tt)))))))
+
+-- keys of both colours of one wire are not active together
+never-both : (c : Circuit) (xs coins : List Bool) (w : ℕ) (b : Bool) → allActive yao c xs coins (label w b ∷ label w (not b) ∷ []) ≡ false
+never-both c xs coins w b = go b (colour (at coins w) (at (values c xs) w))
+  where
+    go : (b own : Bool) → (not (b ⊕ own) && (not (not b ⊕ own) && true)) ≡ false
+    go true true = refl
+    go true false = refl
+    go false true = refl
+    go false false = refl
+
+module _ (c : Circuit) (k w : ℕ) (below : k < length (c .gates)) (same : gateAt c k .wires ≡ w ∷ w ∷ []) (xs coins : List Bool) (s : Seen) where
+  abbrev row : ℕ → Row
+  row p = rowFor numbered c (at coins) k (byColour (at coins) (gateAt c k) p)
+
+  seen-at : (p : ℕ) → p < 4 → getD (getD (view yao c xs coins .rows) k []) p s ≡ look yao c xs coins (row p)
+  seen-at p small =
+      let four : 2 ^ length (gateAt c k .wires) ≡ 4 = ap (λ ws. 2 ^ length ws) same in
+      ap (λ rows. getD rows p s)
+      (entry (map (look yao c xs coins)) (λ k. tabulate (2 ^ length (gateAt c k .wires)) (λ p. rowFor numbered c (at coins) k (byColour (at coins) (gateAt c k) p))) (length (c .gates)) k [] below)
+      ∙ entry (look yao c xs coins) row (2 ^ length (gateAt c k .wires)) p s (omega arith)
+
+  shut : (p : ℕ) (b : Bool) → zipWith label (w ∷ w ∷ []) (bits 2 p) ≡ label w b ∷ label w (not b) ∷ [] → look yao c xs coins (row p) ≡ closed
+  shut p b keys =
+      ap (λ ks. cond (allActive yao c xs coins ks) (opened (row p .holds)) closed) (ap (λ ws. zipWith label ws (bits (length ws) p)) same ∙ keys)
+      ∙ ap (λ t. cond t (opened (row p .holds)) closed) (never-both c xs coins w b)
+
+  never-open : (getD (getD (view yao c xs coins .rows) k []) 0b01 s ≡ closed) × (getD (getD (view yao c xs coins .rows) k []) 0b10 s ≡ closed)
+  unfolding zipWith digits
+  never-open = (seen-at 1 (omega arith) ∙ shut 1 false refl, seen-at 2 (omega arith) ∙ shut 2 true refl)
+
+no-gate : (c : Circuit) → c .gates ≡ [] → (xs : List Bool) → result c xs ≡ atAll xs (c .outputs)
+unfolding extended
+no-gate c none xs = ap (λ gs. atAll (extended gs xs) (c .outputs)) none
+
+paired : WorkedExamples
+unfolding extended digits
+paired =
+    record {
+      work = examples-work;
+      paired = refl;
+      no-gate = no-gate;
+      never-open = λ c k w below same xs coins s. never-open c k w below same xs coins s;
+    }
+
+-- keys that are their own names, and a hash of no bits
+named-keys : Drawn Label
+named-keys =
+    record {
+      hash = λ ks ns. replicate 16 0;
+      hash-size = λ ks ns. refl;
+      secrets = λ k. replicate 15 (k .wire) ++ (bit (k .colour) ∷ []);
+      secrets-size = λ k. refl;
+    }
+
+named-coloured : (c : Circuit) (coins : List Bool) → Coloured yao c coins named-keys
+unfolding value named-keys
+named-coloured c coins k below = go (k .colour)
+  where
+    go : (b : Bool) → colourOf (replicate 15 (k .wire) ++ (bit b ∷ [])) ≡ b
+    go true = refl
+    go false = refl
+
+secure : Secure yao
+secure =
+    record {
+      right = right at;
+      one-key = one-key-numbered at byColour outputsOnly (λ c coins. by-colour c (at coins));
+      seen = seen-by-derivation at byColour outputsOnly (λ c coins. by-colour c (at coins));
+      hides = hides-inputs;
+    }
+
+pub statement : Statement
+statement =
+    record {
+      secure = secure;
+      near-misses = near-misses;
+      sound = sound;
+      deduction = deduction;
+      drawable = (named-keys, named-coloured);
+      out-of-reach = out-of-reach;
+      not-told-apart = not-told-apart;
+      worked = paired;
+    }
