@@ -10,8 +10,9 @@ mod Known
 mod Views
 mod Opens
 mod Schemes
-mod Differences
 mod Pairs
 mod Hidden
 mod Missed
 mod Worked
+mod Differences
+mod Answered

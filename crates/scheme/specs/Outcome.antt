@@ -18,6 +18,8 @@ use Rattle.circuit.specs.declared.refusals.Failure.{Failure}
 use Rattle.circuit.specs.declared.refusals.Refusal.the-variants.{Malformed, Values}
 use Rattle.circuit.specs.declared.sheets.Sheet.{Sheet}
 use Rattle.scheme.specs.Coins.{pairedCoins, firstDifference, Paired, Differs}
+use Rattle.scheme.specs.Promises.{Alike}
+use Rattle.scheme.specs.Yao.{yao}
 use Rattle.scheme.specs.declared.pairing.Pairing.{Pairing}
 use Rattle.scheme.specs.declared.pairing.Pairing.the-variants.{Coins, Differ}
 
@@ -40,11 +42,14 @@ pairing c xs ys coins =
     require (eqb (length xs) (c .inputs) && eqb (length ys) (c .inputs)) Values (require (eqb (length coins) (wireCount c)) Malformed
     (Ok (byDifference (firstDifference 0 (result c xs) (result c ys)) (pairedCoins c xs ys coins))))
 
--- one result, and coins that are paired; those of the outputs, by which a result is read off, stay
+-- one result, and coins that are paired
 pub record SameResult (c : Circuit) (xs ys coins ds : List Bool) : Type 0 where
   pub result : result c xs ≡ result c ys
   pub pairs : Paired c xs ys coins ds
+  -- those of the outputs, by which a result is read off, stay
   pub outputs : atAll ds (c .outputs) ≡ atAll coins (c .outputs)
+  -- an opener sees the same of the second input with these coins as of the first with those given, and does not tell the two apart
+  pub alike : Alike yao c xs coins ys ds
 
 -- what the answer means
 abbrev pub Means : Circuit → List Bool → List Bool → List Bool → Outcome → Type 0

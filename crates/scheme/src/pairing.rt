@@ -8,6 +8,7 @@ ghost use Rattle.circuit.specs.Circuit.{wireCount, Below, atAll};
 ghost use Rattle.circuit.specs.Meaning.{circuitOf};
 ghost use Rattle.scheme.specs.Coins.{_⊕_, pairedBy, firstDifference};
 ghost use Rattle.scheme.specs.Outcome.{Pairs};
+ghost use Rattle.scheme.specs.Statement.{Statement};
 use circuit::Failure;
 use circuit::FailureFromAlloc;
 use circuit::Refusal;
@@ -23,6 +24,11 @@ pub enum Pairing {
     // the first output in which the results differ, from 0
     Differ(usize),
 }
+
+// What can be known of what a garbler sends, and no code.
+fn statement()
+    ensures { λ _. ⌜ Statement ⌝ }
+{}
 
 fn first_difference(before: &[bool], after: &[bool], outputs: &[u32]) -> Option<usize>
     requires before_within { ⌜ Below (length (now before)) (now outputs) ⌝ }
@@ -86,9 +92,7 @@ fn pair_fitting(
     }
 }
 
-// The coins under which every wire has, for the second input, the colour that it has for the first under these, or the first
-// output in which the two differ.
-pub fn pair(
+fn pair_checked(
     heap: Global,
     sheet: &Sheet,
     first: &[bool],
@@ -105,4 +109,20 @@ pub fn pair(
         return Err(Failure::Refused(Refusal::Malformed));
     }
     pair_fitting(heap, sheet, first, second, coins)
+}
+
+// The coins under which every wire has, for the second input, the colour that it has for the first under these, so that an opener
+// does not tell the two apart; or the first output in which the two differ.
+pub fn pair(
+    heap: Global,
+    sheet: &Sheet,
+    first: &[bool],
+    second: &[bool],
+    coins: &[bool],
+) -> Result<Pairing, Failure>
+    ensures pairs { λ r. ⌜ Pairs (now (sheet .entry)) (now (first .entry)) (now (second .entry)) (now (coins .entry)) r ⌝ }
+    ensures laws { λ _. ⌜ Statement ⌝ }
+{
+    statement();
+    pair_checked(heap, sheet, first, second, coins)
 }

@@ -5,7 +5,7 @@ use Rattle.circuit.specs.Meaning.{circuitOf}
 use Rattle.circuit.specs.Circuit.{wireCount, atAll, values, result}
 use Rattle.circuit.proofs.Lawful.{well-formed}
 use Rattle.scheme.specs.Coins.{firstDifference, pairedBy}
-use Rattle.scheme.proofs.Pairs.{values-are, differ-answer, paired-answer}
+use Rattle.scheme.proofs.Answered.{values-are, differ-answer, paired-answer}
 use Rattle.scheme.proofs.pairing.pair_fitting.Needs as need
 use Rattle.scheme.proofs.pairing.pair_fitting.Needs.{After-first-difference}
 

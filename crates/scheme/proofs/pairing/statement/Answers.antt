@@ -1,0 +1,5 @@
+use Rattle.scheme.proofs.pairing.statement.Needs as need
+use Rattle.scheme.proofs.Worked.{statement}
+
+pub returns : need.returns
+returns c = statement
