@@ -6,22 +6,26 @@ use Prim.Native.Nat.{ℕ, zero, suc, _+_, _<_}
 use native.Mathlib.Omega.{arith}
 use lib.ListN.{length, getD}
 use Rattle.std.specs.Iters.{counting}
+use Rattle.std.proofs.shelf.Counted.{getD-map-counting}
+use Rattle.std.proofs.shelf.Lists.{length-map}
 use Rattle.std.proofs.shelf.Tests.{true≢false}
-use Rattle.circuit.specs.Circuit.{Circuit, WellFormed, GoodGates, Below, wireCount, at, extended, result}
-use Rattle.circuit.specs.Numbers.{digits}
-use Rattle.scheme.specs.Coins.{_⊕_}
+use Rattle.circuit.specs.Circuit.{Circuit, WellFormed, GoodGates, Below, wireCount, at, atAll, extended, values, result}
+use Rattle.circuit.specs.Numbers.{binary, digits}
+use Rattle.circuit.proofs.Numbers.{bits-binary, binary-lt}
+use Rattle.scheme.specs.Coins.{_⊕_, colour}
 use Rattle.scheme.specs.Examples.{conjunction}
-use Rattle.scheme.specs.Garbling.{Label, label, Scheme, Seen, opened, closed, View, blocks, sent, view}
+use Rattle.scheme.specs.Garbling.{Label, label, Scheme, blocks, Seen, opened, closed, View, seenAt, sent, active, look, view}
 use Rattle.scheme.specs.NearMisses.{withoutCoins, byValue, rowsByValue, unnumbered, withoutNumbers, withAllMeanings, twoGates, overlaid, NearMisses}
 use Rattle.scheme.specs.Promises.{Fits, OneKey, HidesInputs, Matched}
 use Rattle.scheme.specs.Terms.{block, Term, secret, xor, pad, tweak, _then_, same, chain, swap, in-xor, _≈_, substitute, run}
-use Rattle.scheme.specs.Yao.{byColour, outputsOnly}
-use Rattle.scheme.proofs.Colours.{xor-same}
+use Rattle.scheme.specs.Yao.{gateAt, turned, rowFor, byColour, numbered, outputsOnly}
+use Rattle.scheme.proofs.Colours.{xor-same, xor-back}
 use Rattle.scheme.proofs.Derived.{off}
 use Rattle.scheme.proofs.Layouts.{by-colour, by-value, one-gate}
 use Rattle.scheme.proofs.Opens.{right}
-use Rattle.scheme.proofs.Rows.{Complete}
+use Rattle.scheme.proofs.Rows.{Complete, coloursOf, turned-values, active-row, active-look}
 use Rattle.scheme.proofs.Schemes.{one-key-of, one-key-numbered, seen-by-derivation}
+use Rattle.scheme.proofs.Tables.{row-entry}
 
 conjunction-formed : WellFormed conjunction
 unfolding digits
@@ -70,6 +74,20 @@ rows-by-value hides =
     let none : List Bool = false ∷ false ∷ false ∷ [] in
     true≢false (sym (second-open (m .there none)) ∙ sym (ap second (m .alike none refl .view)) ∙ second-closed)
 
+-- in every circuit
+place-tells : (c : Circuit) (xs coins : List Bool) → Fits rowsByValue c xs coins → (k : ℕ) → k < length (c .gates) → (s : Seen) →
+    seenAt (view rowsByValue c xs coins) k (binary (atAll (values c xs) (gateAt c k .wires))) s ≡ opened (active rowsByValue c xs coins (c .inputs + k))
+place-tells c xs coins fits k below s =
+    let ws = gateAt c k .wires in
+    let vs = atAll (values c xs) ws in
+    let sized : length vs ≡ length ws = length-map ws (at (values c xs)) in
+    let colours : byValue (at coins) (gateAt c k) (binary vs) ≡ coloursOf (at coins) (values c xs) ws =
+    ap (turned (at coins) ws) (bits-binary (length ws) vs sized) ∙ turned-values (at coins) (values c xs) ws in
+    row-entry byValue numbered c (look rowsByValue c xs coins) (at coins) k (binary vs) s below (rw sized at (binary-lt vs))
+    ∙ ap (λ cs. look rowsByValue c xs coins (rowFor numbered c (at coins) k cs)) colours
+    ∙ active-look rowsByValue c xs coins (rowFor numbered c (at coins) k (coloursOf (at coins) (values c xs) ws)) ws refl
+    ∙ ap opened (active-row numbered c (fits .well-formed) xs (fits .inputs) (at coins) k below)
+
 -- the meaning of an input shows it
 with-all-meanings : HidesInputs withAllMeanings → ⊥
 with-all-meanings hides =
@@ -84,9 +102,9 @@ with-all-meanings hides =
 overlay : {A : Type 0} (t u p q : Term A block) → xor (xor t p) (xor (xor u p) (xor (xor u q) q)) ≈ t
 overlay t u p q = chain (in-xor same (chain (in-xor (swap u p) (off u q)) (off p u))) (off t p)
 
-overlaid-rows : run (blocks (sent withoutNumbers twoGates (true ∷ []) (false ∷ false ∷ false ∷ []))) overlaid ≈ secret (label 1 false)
+overlay-tells : run (blocks (sent withoutNumbers twoGates (true ∷ []) (false ∷ false ∷ false ∷ []))) overlaid ≈ secret (label 1 false)
 unfolding substitute flatten zipWith digits
-overlaid-rows =
+overlay-tells =
     overlay (secret (label 1 false)) (secret (label 2 false)) (pad (secret (label 0 false) then secret (label 0 false) then tweak (0 ∷ [])))
     (pad (secret (label 0 true) then secret (label 0 true) then tweak (3 ∷ [])))
 
@@ -106,22 +124,26 @@ without-numbers : OneKey withoutNumbers → ⊥
 unfolding extended
 without-numbers one =
     let fits : Fits withoutNumbers twoGates (true ∷ []) (false ∷ false ∷ false ∷ []) = record { well-formed = two-gates-formed; inputs = refl; drawn = refl } in
-    true≢false (sym (one twoGates (true ∷ []) (false ∷ false ∷ false ∷ []) fits (label 1 false) .0 (overlaid, overlaid-rows) .1))
+    true≢false (sym (one twoGates (true ∷ []) (false ∷ false ∷ false ∷ []) fits (label 1 false) .0 (overlaid, overlay-tells) .1))
 
 pub near-misses : NearMisses
 near-misses =
     let none : List Bool → ℕ → Bool = λ coins w. false in
     let all : Circuit → List ℕ = λ c. counting 0 (wireCount c) in
-    let colours : (coin : List Bool → ℕ → Bool) (c : Circuit) (coins : List Bool) → Complete byColour c (coin coins) = λ coin c coins. by-colour c (coin coins) in
-    let values : (c : Circuit) (coins : List Bool) → Complete byValue c (at coins) = λ c coins. by-value c (at coins) in
+    let every : (coin : List Bool → ℕ → Bool) (c : Circuit) (coins : List Bool) → Complete byColour c (coin coins) = λ coin c coins. by-colour c (coin coins) in
+    let ordered : (c : Circuit) (coins : List Bool) → Complete byValue c (at coins) = λ c coins. by-value c (at coins) in
     record {
       without-coins = without-coins;
       rows-by-value = rows-by-value;
       without-numbers = without-numbers;
       with-all-meanings = with-all-meanings;
-      overlaid-rows = overlaid-rows;
-      one-gate = λ c few. one-key-of at byColour outputsOnly (colours at) unnumbered c (one-gate c few);
-      without-coins-else = (right none, one-key-numbered none byColour outputsOnly (colours none), seen-by-derivation none byColour outputsOnly (colours none));
-      rows-by-value-else = (one-key-numbered at byValue outputsOnly values, seen-by-derivation at byValue outputsOnly values);
-      with-all-meanings-else = (one-key-numbered at byColour all (colours at), seen-by-derivation at byColour all (colours at));
+      colour-tells = λ c xs coins w. refl;
+      place-tells = place-tells;
+      overlay-tells = overlay-tells;
+      one-gate = λ c few. one-key-of at byColour outputsOnly (every at) unnumbered c (one-gate c few);
+      meanings-tell = λ c xs coins w below.
+          ap (λ b. colour b (active withAllMeanings c xs coins w .colour)) (getD-map-counting (at coins) 0 (wireCount c) w w false below (omega arith)) ∙ xor-back (at coins w) (at (values c xs) w);
+      without-coins-else = (right none, one-key-numbered none byColour outputsOnly (every none), seen-by-derivation none byColour outputsOnly (every none));
+      rows-by-value-else = (one-key-numbered at byValue outputsOnly ordered, seen-by-derivation at byValue outputsOnly ordered);
+      with-all-meanings-else = (one-key-numbered at byColour all (every at), seen-by-derivation at byColour all (every at));
     }

@@ -1,7 +1,7 @@
 -- The opening of what is sent gives the circuit's result, for all coins, keys and hashes. Assumes nothing.
 use mathlib.Core.Bool.{Bool, true, false}
 use mathlib.Core.List.{List, [], _∷_, _++_, map, map-map, zipWith}
-use mathlib.Core.Path.{_≡_, refl, sym, ap, ap₂, _∙_}
+use mathlib.Core.Path.{_≡_, refl, sym, ap, ap₂, fun-ext, _∙_}
 use Prim.Native.Nat.{ℕ, zero, suc, _+_, _^_, _<_, _≤_}
 use native.Mathlib.Omega.{arith}
 use lib.ListN.{length, getD, drop}
@@ -24,7 +24,7 @@ use Rattle.scheme.proofs.Blocks.{sound}
 use Rattle.scheme.proofs.Colours.{xor-back}
 use Rattle.scheme.proofs.Derived.{off}
 use Rattle.scheme.proofs.Rows.{input-value, gate-wires, wires-below, coloursOf, keys-of-colours, active-row}
-use Rattle.scheme.proofs.Tables.{entry, equal-tabulate}
+use Rattle.scheme.proofs.Tables.{row-entry, equal-tabulate}
 
 text-value : (d : Drawn Label) (ks : List Label) (ns : List ℕ) → value d (textOf (map secret ks) ns) ≡ (map (d .secrets) ks, ns)
 unfolding value
@@ -75,12 +75,9 @@ module _ (coin : List Bool → ℕ → Bool) (c : Circuit) (good : WellFormed c)
     row-there =
         let n = length wires in
         let small : binary colours < 2 ^ n = rw sized at (binary-lt colours) in
-        ap (λ rows. getD rows (binary colours) [])
-        (ap (λ tables. getD tables k []) (map-map (map (λ t. value d t)) (map (cipher S c coins)) (tablesBy byColour numbered c (coin coins)))
-        ∙ entry (λ rows. map (λ t. value d t) (map (cipher S c coins) rows)) (λ k. tabulate (2 ^ length (gateAt c k .wires)) (λ p. rowFor numbered c (coin coins) k (byColour (coin coins) (gateAt c k) p)))
-        (length (c .gates)) k [] below)
-        ∙ ap (λ rows. getD rows (binary colours) []) (map-map (λ t. value d t) (cipher S c coins) (tabulate (2 ^ n) (λ p. rowFor numbered c (coin coins) k (byColour (coin coins) (gateAt c k) p))))
-        ∙ entry (λ r. value d (cipher S c coins r)) (λ p. rowFor numbered c (coin coins) k (byColour (coin coins) (gateAt c k) p)) (2 ^ n) (binary colours) [] small
+        ap (λ tables. getD (getD tables k []) (binary colours) []) (map-map (map (λ t. value d t)) (map (cipher S c coins)) (tablesBy byColour numbered c (coin coins))
+        ∙ ap (λ f. map f (tablesBy byColour numbered c (coin coins))) (fun-ext (map-map (λ t. value d t) (cipher S c coins))))
+        ∙ row-entry byColour numbered c (λ r. value d (cipher S c coins r)) (coin coins) k (binary colours) [] below small
         ∙ ap (λ cs. value d (cipher S c coins (rowFor numbered c (coin coins) k cs))) (bits-binary n colours sized)
 
     -- its pad

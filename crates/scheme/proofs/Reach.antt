@@ -140,9 +140,10 @@ module _ (coin : List Bool → ℕ → Bool) (order : Order) (tweak : Tweak) (de
     row-becomes : (k : ℕ) → k < length (c .gates) → (cs : List Bool) → length cs ≡ length (gateAt c k .wires) →
         Becomes (cipher S c coins (rowFor tweak c (coin coins) k cs)) (cipher S c others (rowFor tweak c (coin others) k cs))
     unfolding exchanged
-    row-becomes k below cs len =
-        (row-unmarked k below cs len,
-        chain (equals (ap (λ (t : Term Label block). xor (secret here) t) exchanged-pad)) (go (allActive S c xs coins (keysFor c k cs)) refl))
+    row-becomes k below cs len = (
+      row-unmarked k below cs len,
+      chain (equals (ap (λ (t : Term Label block). xor (secret here) t) exchanged-pad)) (go (allActive S c xs coins (keysFor c k cs)) refl),
+    )
       where
         here : Label
         here = rowFor tweak c (coin coins) k cs .holds

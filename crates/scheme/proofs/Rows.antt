@@ -1,6 +1,6 @@
 -- The rows of gates: the row for active keys holds the active key, and no other opens for active keys alone; and what is asked of a table for the argument to
 -- hold. Assumes nothing.
-use mathlib.Core.Bool.{Bool, true, false}
+use mathlib.Core.Bool.{Bool, true, false, cond}
 use mathlib.Core.List.{List, [], _∷_, map, zipWith}
 use mathlib.Core.Path.{_≡_, refl, sym, ap, ap₂, _∙_}
 use Prim.Native.Nat.{ℕ, _+_, _^_, _<_}
@@ -14,7 +14,7 @@ use Rattle.circuit.specs.Circuit.{Circuit, WellFormed, wireCount, at, atAll, va
 use Rattle.circuit.specs.Numbers.{binary}
 use Rattle.circuit.proofs.Values.{assigned, two-of}
 use Rattle.scheme.specs.Coins.{_⊕_, colour}
-use Rattle.scheme.specs.Garbling.{Label, label, Scheme, isActive, allActive}
+use Rattle.scheme.specs.Garbling.{Label, label, Row, Scheme, opened, closed, isActive, allActive, look}
 use Rattle.scheme.specs.Yao.{gateAt, turned, Tweak, rowFor, Order}
 use Rattle.scheme.proofs.Colours.{xor-same, same-from-xor, xor-back}
 
@@ -59,6 +59,12 @@ unfolding zipWith
 turned-colours coin vs [] = refl
 turned-colours coin vs (w ∷ ws) = ap₂ (λ (b : Bool) (bs : List Bool). b ∷ bs) (xor-back (coin w) (at vs w)) (turned-colours coin vs ws)
 
+-- and are made from them
+pub turned-values : (coin : ℕ → Bool) (vs : List Bool) (ws : List ℕ) → turned coin ws (atAll vs ws) ≡ coloursOf coin vs ws
+unfolding zipWith
+turned-values coin vs [] = refl
+turned-values coin vs (w ∷ ws) = ap (λ bs. colour (coin w) (at vs w) ∷ bs) (turned-values coin vs ws)
+
 pub keys-of-colours : (coin : ℕ → Bool) (vs : List Bool) (ws : List ℕ) → zipWith label ws (coloursOf coin vs ws) ≡ map (λ w. label w (colour (coin w) (at vs w))) ws
 unfolding zipWith
 keys-of-colours coin vs [] = refl
@@ -73,10 +79,14 @@ active-row tweak c good xs fit coin k below =
 
 -- keys of some colours are all active just if those are the colours of their wires' values
 module _ {A : Type 0} (S : Scheme A) (c : Circuit) (xs coins : List Bool) where
-  pub active-colours : (ws : List ℕ) → allActive S c xs coins (zipWith label ws (coloursOf (S .coin c coins) (values c xs) ws)) ≡ true
+  active-colours : (ws : List ℕ) → allActive S c xs coins (zipWith label ws (coloursOf (S .coin c coins) (values c xs) ws)) ≡ true
   unfolding zipWith
   active-colours [] = refl
   active-colours (w ∷ ws) = rw (xor-same (colour (S .coin c coins w) (at (values c xs) w))) (active-colours ws)
+
+  -- so a row of those colours is seen open
+  pub active-look : (r : Row) (ws : List ℕ) → r .keys ≡ zipWith label ws (coloursOf (S .coin c coins) (values c xs) ws) → look S c xs coins r ≡ opened (r .holds)
+  active-look r ws keys = ap (λ b. cond b (opened (r .holds)) closed) (ap (allActive S c xs coins) keys ∙ active-colours ws)
 
   pub colours-from-active : (ws : List ℕ) (cs : List Bool) → length cs ≡ length ws → allActive S c xs coins (zipWith label ws cs) ≡ true →
       cs ≡ coloursOf (S .coin c coins) (values c xs) ws

@@ -14,7 +14,7 @@ use Rattle.circuit.specs.Circuit.{Circuit}
 use Rattle.scheme.specs.Garbling.{Row, tabulate}
 use Rattle.scheme.specs.Yao.{gateAt, Order, Tweak, rowFor, tablesBy}
 
-pub entry : {X Y : Type 0} (f : X → Y) (h : ℕ → X) (n i : ℕ) (d : Y) → i < n → getD (map f (tabulate n h)) i d ≡ f (h i)
+entry : {X Y : Type 0} (f : X → Y) (h : ℕ → X) (n i : ℕ) (d : Y) → i < n → getD (map f (tabulate n h)) i d ≡ f (h i)
 entry f h n i d below = ap (λ ys. getD ys i d) (map-map f h (counting 0 n)) ∙ getD-map-counting (λ i. f (h i)) 0 n i i d below (omega arith)
 
 -- side by side
@@ -97,6 +97,13 @@ module _ (order : Order) (tweak : Tweak) (c : Circuit) where
 
       theirs : ℕ → ℕ → Row
       theirs k p = rowFor tweak c other k (order other (gateAt c k) p)
+
+  pub row-entry : {X : Type 0} (f : Row → X) (coin : ℕ → Bool) (k p : ℕ) (d : X) → k < length (c .gates) → p < 2 ^ length (gateAt c k .wires) →
+      getD (getD (map (map f) (tablesBy order tweak c coin)) k []) p d ≡ f (rowFor tweak c coin k (order coin (gateAt c k) p))
+  row-entry f coin k p d below small =
+      ap (λ rows. getD rows p d)
+      (entry (map f) (λ k. tabulate (2 ^ length (gateAt c k .wires)) (λ p. rowFor tweak c coin k (order coin (gateAt c k) p))) (length (c .gates)) k [] below)
+      ∙ entry f (λ p. rowFor tweak c coin k (order coin (gateAt c k) p)) (2 ^ length (gateAt c k .wires)) p d small
 
   -- each row stands there, whatever is made of it
   pub row-member : {X : Type 0} (f : Row → X) (coin : ℕ → Bool) (k p : ℕ) → k < length (c .gates) → p < 2 ^ length (gateAt c k .wires) →

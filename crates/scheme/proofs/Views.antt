@@ -19,7 +19,7 @@ use Rattle.scheme.specs.Yao.{gateAt, Tweak, rowFor, Order, tablesBy, yaoBy}
 use Rattle.scheme.proofs.Colours.{xor-same}
 use Rattle.scheme.proofs.Known.{row-there, row-opens, active-known, only-active}
 use Rattle.scheme.proofs.Reach.{Setting, holds-agree}
-use Rattle.scheme.proofs.Rows.{input-value, wires-below, keys-below, coloursOf, keys-of-colours, active-row, active-colours, colours-from-active}
+use Rattle.scheme.proofs.Rows.{input-value, wires-below, keys-below, coloursOf, keys-of-colours, active-row, active-look, colours-from-active}
 use Rattle.scheme.proofs.Tables.{tabulate-beside, tables-beside, map-map-beside, beside-map-map, tabulate-member, member-beside, equal-tables, equal-tabulate}
 
 module _ (coin : List Bool → ℕ → Bool) (order : Order) (tweak : Tweak) (decoded : Circuit → List ℕ) where
@@ -81,8 +81,7 @@ module _ (coin : List Bool → ℕ → Bool) (order : Order) (tweak : Tweak) (de
         let ws = gateAt c k .wires in
         let cs = coloursOf (coin coins) (values c xs) ws in
         let is : look S c xs coins (rowFor tweak c (coin coins) k cs) ≡ opened (active S c xs coins (c .inputs + k)) =
-        ap (λ b. cond b (opened (rowFor tweak c (coin coins) k cs .holds)) closed) (active-colours S c xs coins ws)
-        ∙ ap opened (active-row tweak c (on .good) xs (on .fit) (coin coins) k below) in
+        active-look S c xs coins (rowFor tweak c (coin coins) k cs) ws refl ∙ ap opened (active-row tweak c (on .good) xs (on .fit) (coin coins) k below) in
         subst (λ s. List·Memᴰ s (flatten (seen .rows))) is
         (row-there coin order tweak decoded c xs coins on (look S c xs coins) k below cs (length-map ws (λ w. colour (coin coins w) (at (values c xs) w))))
 
@@ -103,11 +102,12 @@ module _ (coin : List Bool → ℕ → Bool) (order : Order) (tweak : Tweak) (de
               beside-map-map (SeenAs S c xs coins) (look S c xs coins)
               (tables-beside order tweak c (λ r q. SeenAs S c xs coins r (look S c xs coins q)) (coin coins) (coin coins)
               (λ k below p. row-seen k below (order (coin coins) (gateAt c k) p) (on .complete .sized k below p) .0));
-          keys = λ k.
-              (shown-known k,
-              λ known.
-              let is = only-active coin order tweak decoded c xs coins on k known in
-              subst (λ b. Shows S seen (label (k .wire) b)) (sym (is .1)) (active-shown (k .wire) (is .0)));
+          keys = λ k. (
+            shown-known k,
+            λ known.
+                let is = only-active coin order tweak decoded c xs coins on k known in
+                subst (λ b. Shows S seen (label (k .wire) b)) (sym (is .1)) (active-shown (k .wire) (is .0)),
+          );
         }
 
   -- two runs in which every wire has the same active key, rows stand in the same order, and the meanings are the same

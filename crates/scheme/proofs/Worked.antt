@@ -1,16 +1,16 @@
 -- The worked examples, and the whole statement. Assumes nothing.
 use mathlib.Core.Bool.{Bool, true, false, cond, _&&_, not}
-use mathlib.Core.List.{List, [], _∷_, _++_, map, zipWith}
+use mathlib.Core.List.{List, [], _∷_, _++_, zipWith}
 use mathlib.Core.Path.{_≡_, refl, ap, _∙_}
 use Prim.Native.Nat.{ℕ, _+_, _*_, _^_, _<_}
 use native.Mathlib.Omega.{arith}
-use lib.ListN.{length, getD, replicate}
+use lib.ListN.{length, replicate}
 use Rattle.std.specs.shelf.Lists.{All}
 use Rattle.circuit.specs.Circuit.{Circuit, at, atAll, extended, values, result}
 use Rattle.circuit.specs.Numbers.{bit, bits, digits}
 use Rattle.scheme.specs.Coins.{_⊕_, colour}
 use Rattle.scheme.specs.Examples.{Works, examples, WorkedExamples}
-use Rattle.scheme.specs.Garbling.{Label, label, Row, Seen, opened, closed, view, look, allActive, tabulate}
+use Rattle.scheme.specs.Garbling.{Label, label, Row, Seen, opened, closed, seenAt, view, look, allActive}
 use Rattle.scheme.specs.Opening.{Drawn, colourOf, value}
 use Rattle.scheme.specs.Promises.{Secure, Coloured}
 use Rattle.scheme.specs.Statement.{Statement}
@@ -23,7 +23,7 @@ use Rattle.scheme.proofs.Marked.{out-of-reach, not-told-apart}
 use Rattle.scheme.proofs.Missed.{near-misses}
 use Rattle.scheme.proofs.Opens.{right}
 use Rattle.scheme.proofs.Schemes.{one-key-numbered, seen-by-derivation}
-use Rattle.scheme.proofs.Tables.{entry}
+use Rattle.scheme.proofs.Tables.{row-entry}
 
 examples-work : All Works examples
 unfolding extended zipWith digits
@@ -43,19 +43,17 @@ module _ (c : Circuit) (k w : ℕ) (below : k < length (c .gates)) (same : gateA
   abbrev row : ℕ → Row
   row p = rowFor numbered c (at coins) k (byColour (at coins) (gateAt c k) p)
 
-  seen-at : (p : ℕ) → p < 4 → getD (getD (view yao c xs coins .rows) k []) p s ≡ look yao c xs coins (row p)
+  seen-at : (p : ℕ) → p < 4 → seenAt (view yao c xs coins) k p s ≡ look yao c xs coins (row p)
   seen-at p small =
       let four : 2 ^ length (gateAt c k .wires) ≡ 4 = ap (λ ws. 2 ^ length ws) same in
-      ap (λ rows. getD rows p s)
-      (entry (map (look yao c xs coins)) (λ k. tabulate (2 ^ length (gateAt c k .wires)) (λ p. rowFor numbered c (at coins) k (byColour (at coins) (gateAt c k) p))) (length (c .gates)) k [] below)
-      ∙ entry (look yao c xs coins) row (2 ^ length (gateAt c k .wires)) p s (omega arith)
+      row-entry byColour numbered c (look yao c xs coins) (at coins) k p s below (omega arith)
 
   shut : (p : ℕ) (b : Bool) → zipWith label (w ∷ w ∷ []) (bits 2 p) ≡ label w b ∷ label w (not b) ∷ [] → look yao c xs coins (row p) ≡ closed
   shut p b keys =
       ap (λ ks. cond (allActive yao c xs coins ks) (opened (row p .holds)) closed) (ap (λ ws. zipWith label ws (bits (length ws) p)) same ∙ keys)
       ∙ ap (λ t. cond t (opened (row p .holds)) closed) (never-both c xs coins w b)
 
-  never-open : (getD (getD (view yao c xs coins .rows) k []) 0b01 s ≡ closed) × (getD (getD (view yao c xs coins .rows) k []) 0b10 s ≡ closed)
+  never-open : (seenAt (view yao c xs coins) k 0b01 s ≡ closed) × (seenAt (view yao c xs coins) k 0b10 s ≡ closed)
   unfolding zipWith digits
   never-open = (seen-at 1 (omega arith) ∙ shut 1 false refl, seen-at 2 (omega arith) ∙ shut 2 true refl)
 

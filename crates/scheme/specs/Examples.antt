@@ -3,12 +3,12 @@ use mathlib.Core.Bool.{Bool, true, false}
 use mathlib.Core.List.{List, [], _∷_}
 use mathlib.Core.Path.{_≡_}
 use Prim.Native.Nat.{ℕ, _<_}
-use lib.ListN.{length, getD}
+use lib.ListN.{length}
 use Rattle.std.specs.shelf.Lists.{All}
 use Rattle.circuit.specs.Circuit.{Circuit, atAll, result}
 use Rattle.circuit.specs.Numbers.{bits}
 use Rattle.scheme.specs.Coins.{pairedCoins}
-use Rattle.scheme.specs.Garbling.{label, Seen, opened, closed, view}
+use Rattle.scheme.specs.Garbling.{label, Seen, opened, closed, seenAt, view}
 use Rattle.scheme.specs.Yao.{gateAt, yao}
 
 -- a run, what is seen of its rows, and its result
@@ -58,4 +58,4 @@ pub record WorkedExamples : Type 0 where
   pub no-gate : (c : Circuit) → c .gates ≡ [] → (xs : List Bool) → result c xs ≡ atAll xs (c .outputs)
   -- where a gate takes one wire twice, rows 0 1 and 1 0 never open
   pub never-open : (c : Circuit) (k w : ℕ) → k < length (c .gates) → gateAt c k .wires ≡ w ∷ w ∷ [] → (xs coins : List Bool) (s : Seen) →
-      (getD (getD (view yao c xs coins .rows) k []) 0b01 s ≡ closed) × (getD (getD (view yao c xs coins .rows) k []) 0b10 s ≡ closed)
+      (seenAt (view yao c xs coins) k 0b01 s ≡ closed) × (seenAt (view yao c xs coins) k 0b10 s ≡ closed)

@@ -2,6 +2,7 @@
 use mathlib.Core.Bool.{Bool, true, cond, _&&_, not}
 use mathlib.Core.List.{List, [], _∷_, _++_, map, flatten}
 use Prim.Native.Nat.{ℕ}
+use lib.ListN.{getD}
 use Rattle.std.specs.Iters.{counting}
 use Rattle.circuit.specs.Circuit.{Circuit, at, values}
 use Rattle.scheme.specs.Coins.{_⊕_, colour}
@@ -62,6 +63,10 @@ pub record View : Type 0 where
   pub keys : List Label
   pub rows : List (List Seen)
   pub meanings : List Bool
+
+-- row p of gate k, or s if there is none
+abbrev pub seenAt : View → ℕ → ℕ → Seen → Seen
+seenAt v k p s = getD (getD (v .rows) k []) p s
 
 module _ {A : Type 0} (S : Scheme A) (c : Circuit) where
   -- the key of a wire's value

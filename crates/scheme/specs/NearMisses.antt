@@ -1,15 +1,17 @@
 -- Schemes that come near: each decides one thing otherwise, and breaks a promise. Assumes nothing.
-use mathlib.Core.Bool.{true, false}
+use mathlib.Core.Bool.{Bool, true, false}
 use mathlib.Core.List.{List, [], _∷_}
-use Prim.Native.Nat.{_≤_}
+use mathlib.Core.Path.{_≡_}
+use Prim.Native.Nat.{ℕ, _+_, _<_, _≤_}
 use lib.ListN.{length}
 use Rattle.std.specs.Iters.{counting}
-use Rattle.circuit.specs.Circuit.{Circuit, wireCount, at}
+use Rattle.circuit.specs.Circuit.{Circuit, wireCount, at, atAll, values}
 use Rattle.circuit.specs.Numbers.{binary, bits}
-use Rattle.scheme.specs.Garbling.{Label, label, Scheme, blocks, sent}
-use Rattle.scheme.specs.Promises.{Right, OneKeyOf, OneKey, SeenByDerivation, HidesInputs}
+use Rattle.scheme.specs.Coins.{colour}
+use Rattle.scheme.specs.Garbling.{Label, label, Scheme, blocks, Seen, opened, seenAt, meanings, sent, active, view}
+use Rattle.scheme.specs.Promises.{Fits, Right, OneKeyOf, OneKey, SeenByDerivation, HidesInputs}
 use Rattle.scheme.specs.Terms.{block, secret, xor, pad, tweak, _then_, _≈_, Recipe, run}
-use Rattle.scheme.specs.Yao.{Order, Tweak, turned, byColour, numbered, yaoBy, outputsOnly}
+use Rattle.scheme.specs.Yao.{gateAt, Order, Tweak, turned, byColour, numbered, yaoBy, outputsOnly}
 
 -- without coins: a key's colour is its value
 abbrev pub withoutCoins : Scheme Label
@@ -57,10 +59,18 @@ pub record NearMisses : Type 0 where
   pub rows-by-value : HidesInputs rowsByValue → ⊥
   pub without-numbers : OneKey withoutNumbers → ⊥
   pub with-all-meanings : HidesInputs withAllMeanings → ⊥
-  -- without numbers: the key of 0 of the first gate's wire comes out, whose value is 1; fewer gates than two are safe
-  pub overlaid-rows : run (blocks (sent withoutNumbers twoGates (true ∷ []) (false ∷ false ∷ false ∷ []))) overlaid ≈ secret (label 1 false)
+  -- Why: without coins the colour of the key that is held of a wire is the wire's value;
+  pub colour-tells : (c : Circuit) (xs coins : List Bool) (w : ℕ) → active withoutCoins c xs coins w .colour ≡ at (values c xs) w
+  -- by value the row that opens stands at the place that the values of the gate's wires write;
+  pub place-tells : (c : Circuit) (xs coins : List Bool) → Fits rowsByValue c xs coins → (k : ℕ) → k < length (c .gates) → (s : Seen) →
+      seenAt (view rowsByValue c xs coins) k (binary (atAll (values c xs) (gateAt c k .wires))) s ≡ opened (active rowsByValue c xs coins (c .inputs + k))
+  -- without numbers the key of 0 of the first gate's wire comes out, whose value is 1 (fewer gates than two are safe);
+  pub overlay-tells : run (blocks (sent withoutNumbers twoGates (true ∷ []) (false ∷ false ∷ false ∷ []))) overlaid ≈ secret (label 1 false)
   pub one-gate : (c : Circuit) → length (c .gates) ≤ 1 → OneKeyOf withoutNumbers c
-  -- and what else holds of the others: neither results nor keys tell them from the scheme that is meant
+  -- with all meanings each key that is held is read as its value.
+  pub meanings-tell : (c : Circuit) (xs coins : List Bool) (w : ℕ) → w < wireCount c →
+      colour (at (meanings withAllMeanings c coins) w) (active withAllMeanings c xs coins w .colour) ≡ at (values c xs) w
+  -- And what else holds of them: neither results nor keys tell them from the scheme that is meant.
   pub without-coins-else : Right withoutCoins × OneKey withoutCoins × SeenByDerivation withoutCoins
   pub rows-by-value-else : OneKey rowsByValue × SeenByDerivation rowsByValue
   pub with-all-meanings-else : OneKey withAllMeanings × SeenByDerivation withAllMeanings
