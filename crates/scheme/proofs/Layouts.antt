@@ -14,7 +14,7 @@ use Rattle.scheme.specs.Yao.{gateAt, turned, byColour, numbered}
 use Rattle.scheme.proofs.Colours.{xor-back}
 use Rattle.scheme.proofs.Rows.{Complete, Naming}
 
-pub by-colour : (c : Circuit) (coin : ℕ → Bool) → Complete byColour c coin
+pub by-colour : (c : Circuit) (coin : ℕ → Bool) → Complete (λ k. byColour coin (gateAt c k)) c
 by-colour c coin =
     record {
       sized = λ k below p. length-bits (length (gateAt c k .wires)) p;
@@ -36,7 +36,7 @@ turned-twice coin [] (b ∷ cs) len = absurd (omega arith)
 turned-twice coin (w ∷ ws) [] len = absurd (omega arith)
 turned-twice coin (w ∷ ws) (b ∷ cs) len = ap₂ (λ (x : Bool) (xs : List Bool). x ∷ xs) (xor-back (coin w) b) (turned-twice coin ws cs (omega arith))
 
-pub by-value : (c : Circuit) (coin : ℕ → Bool) → Complete byValue c coin
+pub by-value : (c : Circuit) (coin : ℕ → Bool) → Complete (λ k. byValue coin (gateAt c k)) c
 by-value c coin =
     record {
       sized = λ k below p. turned-size coin (gateAt c k .wires) (bits (length (gateAt c k .wires)) p) (length-bits (length (gateAt c k .wires)) p);

@@ -7,12 +7,13 @@ mod Rows
 mod Layouts
 mod Reach
 mod Known
-mod Views
+mod Runs
+mod Simulated
 mod Opens
 mod Schemes
-mod Pairs
-mod Hidden
 mod Missed
 mod Worked
+mod Pairs
+mod Hidden
 mod Differences
 mod Answered

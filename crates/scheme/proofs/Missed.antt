@@ -18,12 +18,12 @@ use Rattle.scheme.specs.Garbling.{Label, label, Scheme, blocks, Seen, opened, 
 use Rattle.scheme.specs.NearMisses.{withoutCoins, byValue, rowsByValue, unnumbered, withoutNumbers, withAllMeanings, twoGates, overlaid, NearMisses}
 use Rattle.scheme.specs.Promises.{Fits, OneKey, HidesInputs, Matched}
 use Rattle.scheme.specs.Terms.{block, Term, secret, xor, pad, tweak, _then_, same, chain, swap, in-xor, _≈_, substitute, run}
-use Rattle.scheme.specs.Yao.{gateAt, turned, rowFor, byColour, numbered, outputsOnly}
+use Rattle.scheme.specs.Yao.{gateAt, turned, rowOf, heldFor, byColour, numbered, outputsOnly}
 use Rattle.scheme.proofs.Colours.{xor-same, xor-back}
 use Rattle.scheme.proofs.Derived.{off}
 use Rattle.scheme.proofs.Layouts.{by-colour, by-value, one-gate}
 use Rattle.scheme.proofs.Opens.{right}
-use Rattle.scheme.proofs.Rows.{Complete, coloursOf, turned-values, active-row, active-look}
+use Rattle.scheme.proofs.Rows.{turned-values, active-row, looks-open}
 use Rattle.scheme.proofs.Schemes.{one-key-of, one-key-numbered, seen-by-derivation}
 use Rattle.scheme.proofs.Tables.{row-entry}
 
@@ -80,13 +80,13 @@ place-tells : (c : Circuit) (xs coins : List Bool) → Fits rowsByValue c xs coi
 place-tells c xs coins fits k below s =
     let ws = gateAt c k .wires in
     let vs = atAll (values c xs) ws in
+    let held : ℕ → Bool = λ w. active rowsByValue c xs coins w .colour in
     let sized : length vs ≡ length ws = length-map ws (at (values c xs)) in
-    let colours : byValue (at coins) (gateAt c k) (binary vs) ≡ coloursOf (at coins) (values c xs) ws =
-    ap (turned (at coins) ws) (bits-binary (length ws) vs sized) ∙ turned-values (at coins) (values c xs) ws in
-    row-entry byValue numbered c (look rowsByValue c xs coins) (at coins) k (binary vs) s below (rw sized at (binary-lt vs))
-    ∙ ap (λ cs. look rowsByValue c xs coins (rowFor numbered c (at coins) k cs)) colours
-    ∙ active-look rowsByValue c xs coins (rowFor numbered c (at coins) k (coloursOf (at coins) (values c xs) ws)) ws refl
-    ∙ ap opened (active-row numbered c (fits .well-formed) xs (fits .inputs) (at coins) k below)
+    let colours : byValue (at coins) (gateAt c k) (binary vs) ≡ map held ws = ap (turned (at coins) ws) (bits-binary (length ws) vs sized) ∙ turned-values (at coins) (values c xs) ws in
+    row-entry numbered c (λ k. byValue (at coins) (gateAt c k)) (look held) (heldFor c (at coins)) k (binary vs) s below (rw sized at (binary-lt vs))
+    ∙ ap (λ cs. look held (rowOf numbered c k cs (heldFor c (at coins) k cs))) colours
+    ∙ looks-open held (rowOf numbered c k (map held ws) (heldFor c (at coins) k (map held ws))) ws refl
+    ∙ ap (λ b. opened (label (c .inputs + k) b)) (active-row c (fits .well-formed) xs (fits .inputs) (at coins) k below)
 
 -- the meaning of an input shows it
 with-all-meanings : HidesInputs withAllMeanings → ⊥
@@ -130,8 +130,6 @@ pub near-misses : NearMisses
 near-misses =
     let none : List Bool → ℕ → Bool = λ coins w. false in
     let all : Circuit → List ℕ = λ c. counting 0 (wireCount c) in
-    let every : (coin : List Bool → ℕ → Bool) (c : Circuit) (coins : List Bool) → Complete byColour c (coin coins) = λ coin c coins. by-colour c (coin coins) in
-    let ordered : (c : Circuit) (coins : List Bool) → Complete byValue c (at coins) = λ c coins. by-value c (at coins) in
     record {
       without-coins = without-coins;
       rows-by-value = rows-by-value;
@@ -140,10 +138,10 @@ near-misses =
       colour-tells = λ c xs coins w. refl;
       place-tells = place-tells;
       overlay-tells = overlay-tells;
-      one-gate = λ c few. one-key-of at byColour outputsOnly (every at) unnumbered c (one-gate c few);
+      one-gate = λ c few. one-key-of at byColour outputsOnly by-colour unnumbered c (one-gate c few);
       meanings-tell = λ c xs coins w below.
           ap (λ b. colour b (active withAllMeanings c xs coins w .colour)) (getD-map-counting (at coins) 0 (wireCount c) w w false below (omega arith)) ∙ xor-back (at coins w) (at (values c xs) w);
-      without-coins-else = (right none, one-key-numbered none byColour outputsOnly (every none), seen-by-derivation none byColour outputsOnly (every none));
-      rows-by-value-else = (one-key-numbered at byValue outputsOnly ordered, seen-by-derivation at byValue outputsOnly ordered);
-      with-all-meanings-else = (one-key-numbered at byColour all (every at), seen-by-derivation at byColour all (every at));
+      without-coins-else = (right none, one-key-numbered none byColour outputsOnly by-colour, seen-by-derivation none byColour outputsOnly by-colour);
+      rows-by-value-else = (one-key-numbered at byValue outputsOnly by-value, seen-by-derivation at byValue outputsOnly by-value);
+      with-all-meanings-else = (one-key-numbered at byColour all by-colour, seen-by-derivation at byColour all by-colour);
     }

@@ -19,11 +19,11 @@ use Rattle.scheme.specs.Garbling.{Label, label, Scheme, textOf, tabulate, valu
 use Rattle.scheme.specs.Opening.{xorBytes, colourOf, Hash, Drawn, value, openRow, openGate, heldAt, openGates, decode, evaluate}
 use Rattle.scheme.specs.Promises.{Fits, Coloured, Right}
 use Rattle.scheme.specs.Terms.{block, Term, secret, xor, pad}
-use Rattle.scheme.specs.Yao.{gateAt, rowFor, tablesBy, yaoBy, byColour, numbered, outputsOnly}
+use Rattle.scheme.specs.Yao.{gateAt, rowOf, heldFor, tablesBy, yaoBy, byColour, numbered, outputsOnly}
 use Rattle.scheme.proofs.Blocks.{sound}
 use Rattle.scheme.proofs.Colours.{xor-back}
 use Rattle.scheme.proofs.Derived.{off}
-use Rattle.scheme.proofs.Rows.{input-value, gate-wires, wires-below, coloursOf, keys-of-colours, active-row}
+use Rattle.scheme.proofs.Rows.{input-value, gate-wires, wires-below, active-row, keys-held}
 use Rattle.scheme.proofs.Tables.{row-entry, equal-tabulate}
 
 text-value : (d : Drawn Label) (ks : List Label) (ns : List ℕ) → value d (textOf (map secret ks) ns) ≡ (map (d .secrets) ks, ns)
@@ -41,7 +41,10 @@ module _ (coin : List Bool → ℕ → Bool) (c : Circuit) (good : WellFormed c)
   abbrev S : Scheme Label
   S = yaoBy coin byColour numbered outputsOnly
 
-  -- the bytes of the active key of a wire
+  -- the colour of the active key of a wire, and its bytes
+  abbrev shade : ℕ → Bool
+  shade w = active S c xs coins w .colour
+
   abbrev held : ℕ → List ℕ
   held w = d .secrets (active S c xs coins w)
 
@@ -52,7 +55,7 @@ module _ (coin : List Bool → ℕ → Bool) (c : Circuit) (good : WellFormed c)
   held-of n [] all = refl
   held-of n (w ∷ ws) all = ap₂ (λ (k : List ℕ) (ks : List (List ℕ)). k ∷ ks) (getD-map-counting held 0 n w w [] (all .0) (omega arith)) (held-of n ws (all .1))
 
-  colours-held : (ws : List ℕ) → All (λ w. w < wireCount c) ws → map colourOf (map held ws) ≡ coloursOf (coin coins) (values c xs) ws
+  colours-held : (ws : List ℕ) → All (λ w. w < wireCount c) ws → map colourOf (map held ws) ≡ map shade ws
   colours-held [] all = refl
   colours-held (w ∷ ws) all = ap₂ (λ (b : Bool) (bs : List Bool). b ∷ bs) (shown (active S c xs coins w) (all .0)) (colours-held ws (all .1))
 
@@ -65,20 +68,20 @@ module _ (coin : List Bool → ℕ → Bool) (c : Circuit) (good : WellFormed c)
     wires = gateAt c k .wires
 
     abbrev colours : List Bool
-    colours = coloursOf (coin coins) (values c xs) wires
+    colours = map shade wires
 
     sized : length colours ≡ length wires
-    sized = length-map wires (λ w. colour (coin coins w) (at (values c xs) w))
+    sized = length-map wires shade
 
     -- the row that the colours name
-    row-there : getD (getD tables k []) (binary colours) [] ≡ value d (cipher S c coins (rowFor numbered c (coin coins) k colours))
+    row-there : getD (getD tables k []) (binary colours) [] ≡ value d (cipher S c coins (rowOf numbered c k colours (heldFor c (coin coins) k colours)))
     row-there =
         let n = length wires in
         let small : binary colours < 2 ^ n = rw sized at (binary-lt colours) in
         ap (λ tables. getD (getD tables k []) (binary colours) []) (map-map (map (λ t. value d t)) (map (cipher S c coins)) (tablesBy byColour numbered c (coin coins))
         ∙ ap (λ f. map f (tablesBy byColour numbered c (coin coins))) (fun-ext (map-map (λ t. value d t) (cipher S c coins))))
-        ∙ row-entry byColour numbered c (λ r. value d (cipher S c coins r)) (coin coins) k (binary colours) [] below small
-        ∙ ap (λ cs. value d (cipher S c coins (rowFor numbered c (coin coins) k cs))) (bits-binary n colours sized)
+        ∙ row-entry numbered c (λ k. byColour (coin coins) (gateAt c k)) (λ r. value d (cipher S c coins r)) (heldFor c (coin coins)) k (binary colours) [] below small
+        ∙ ap (λ cs. value d (cipher S c coins (rowOf numbered c k cs (heldFor c (coin coins) k cs)))) (bits-binary n colours sized)
 
     -- its pad
     pad-there : d .hash (map held wires) (numbered k colours) ≡ value d (pad (textOf (map secret (zipWith label wires colours)) (numbered k colours)))
@@ -86,7 +89,7 @@ module _ (coin : List Bool → ℕ → Bool) (c : Circuit) (good : WellFormed c)
     pad-there =
         sym (ap (λ (p : List (List ℕ) × List ℕ). d .hash (p .0) (p .1))
         (text-value d (zipWith label wires colours) (numbered k colours)
-        ∙ ap (λ (ks : List (List ℕ)). (ks, numbered k colours)) (ap (map (d .secrets)) (keys-of-colours (coin coins) (values c xs) wires) ∙ secrets-held wires)))
+        ∙ ap (λ (ks : List (List ℕ)). (ks, numbered k colours)) (ap (map (d .secrets)) (keys-held shade wires) ∙ secrets-held wires)))
 
     gate-opens : openGate (d .hash) k (heldAt (tabulate (c .inputs + k) held) wires) (getD tables k []) ≡ held (c .inputs + k)
     unfolding value
@@ -94,8 +97,8 @@ module _ (coin : List Bool → ℕ → Bool) (c : Circuit) (good : WellFormed c)
         ap (λ ks. openGate (d .hash) k ks (getD tables k [])) (held-of (c .inputs + k) wires (gate-wires c good k below))
         ∙ ap (λ cs. openRow (d .hash) k (map held wires) (getD tables k []) (binary cs)) (colours-held wires (wires-below c good k below))
         ∙ ap₂ xorBytes row-there pad-there
-        ∙ taken-off d (secret (rowFor numbered c (coin coins) k colours .holds)) (pad (textOf (map secret (zipWith label wires colours)) (numbered k colours)))
-        ∙ ap (d .secrets) (active-row numbered c good xs fit (coin coins) k below)
+        ∙ taken-off d (secret (rowOf numbered c k colours (heldFor c (coin coins) k colours) .holds)) (pad (textOf (map secret (zipWith label wires colours)) (numbered k colours)))
+        ∙ ap (λ b. d .secrets (label (c .inputs + k) b)) (active-row c good xs fit (coin coins) k below)
 
   -- gate after gate
   gates-open : (n k : ℕ) → k + n ≡ length (c .gates) → openGates (d .hash) k (drop k (c .gates)) (drop k tables) (tabulate (c .inputs + k) held) ≡ tabulate (wireCount c) held

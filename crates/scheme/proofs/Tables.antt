@@ -12,7 +12,7 @@ use Rattle.std.specs.Iters.{counting}
 use Rattle.std.proofs.shelf.Counted.{getD-map-counting}
 use Rattle.circuit.specs.Circuit.{Circuit}
 use Rattle.scheme.specs.Garbling.{Row, tabulate}
-use Rattle.scheme.specs.Yao.{gateAt, Order, Tweak, rowFor, tablesBy}
+use Rattle.scheme.specs.Yao.{gateAt, Tweak, rowOf, tablesHolding}
 
 entry : {X Y : Type 0} (f : X → Y) (h : ℕ → X) (n i : ℕ) (d : Y) → i < n → getD (map f (tabulate n h)) i d ≡ f (h i)
 entry f h n i d below = ap (λ ys. getD ys i d) (map-map f h (counting 0 n)) ∙ getD-map-counting (λ i. f (h i)) 0 n i i d below (omega arith)
@@ -80,35 +80,29 @@ flatten-member {x = x} m (List·Memᴰ·head {xs = yss} e) = Memᴰ·append-left
 flatten-member m (List·Memᴰ·tail {x = ys} n) = Memᴰ·append-right ys (flatten-member m n)
 
 -- tables of gates
-module _ (order : Order) (tweak : Tweak) (c : Circuit) where
-  -- those of two runs, row by row
-  pub tables-beside : (R : Row → Row → Type 0) (coin other : ℕ → Bool) →
-      ((k : ℕ) → k < length (c .gates) → (p : ℕ) → R (rowFor tweak c coin k (order coin (gateAt c k) p)) (rowFor tweak c other k (order other (gateAt c k) p))) →
-      Forall₂ (Forall₂ R) (tablesBy order tweak c coin) (tablesBy order tweak c other)
-  tables-beside R coin other h =
-      tabulate-beside (Forall₂ R) (λ k. tabulate (rows k) (mine k)) (λ k. tabulate (rows k) (theirs k)) (length (c .gates))
-      (λ k below. tabulate-beside R (mine k) (theirs k) (rows k) (λ p small. h k below p))
-    where
-      rows : ℕ → ℕ
-      rows k = 2 ^ length (gateAt c k .wires)
+module _ (tweak : Tweak) (c : Circuit) (order : ℕ → ℕ → List Bool) where
+  abbrev rowCount : ℕ → ℕ
+  rowCount k = 2 ^ length (gateAt c k .wires)
 
-      mine : ℕ → ℕ → Row
-      mine k p = rowFor tweak c coin k (order coin (gateAt c k) p)
+  -- row p of gate k
+  abbrev row : (ℕ → List Bool → Bool) → ℕ → ℕ → Row
+  row held k p = rowOf tweak c k (order k p) (held k (order k p))
 
-      theirs : ℕ → ℕ → Row
-      theirs k p = rowFor tweak c other k (order other (gateAt c k) p)
+  -- two that differ in what they hold, row by row
+  pub tables-beside : (R : Row → Row → Type 0) (held other : ℕ → List Bool → Bool) → ((k : ℕ) → k < length (c .gates) → (p : ℕ) → R (row held k p) (row other k p)) →
+      Forall₂ (Forall₂ R) (tablesHolding tweak c order held) (tablesHolding tweak c order other)
+  tables-beside R held other h =
+      tabulate-beside (Forall₂ R) (λ k. tabulate (rowCount k) (row held k)) (λ k. tabulate (rowCount k) (row other k)) (length (c .gates))
+      (λ k below. tabulate-beside R (row held k) (row other k) (rowCount k) (λ p small. h k below p))
 
-  pub row-entry : {X : Type 0} (f : Row → X) (coin : ℕ → Bool) (k p : ℕ) (d : X) → k < length (c .gates) → p < 2 ^ length (gateAt c k .wires) →
-      getD (getD (map (map f) (tablesBy order tweak c coin)) k []) p d ≡ f (rowFor tweak c coin k (order coin (gateAt c k) p))
-  row-entry f coin k p d below small =
-      ap (λ rows. getD rows p d)
-      (entry (map f) (λ k. tabulate (2 ^ length (gateAt c k .wires)) (λ p. rowFor tweak c coin k (order coin (gateAt c k) p))) (length (c .gates)) k [] below)
-      ∙ entry f (λ p. rowFor tweak c coin k (order coin (gateAt c k) p)) (2 ^ length (gateAt c k .wires)) p d small
+  -- a row in its place, and as a member, whatever is made of it
+  pub row-entry : {X : Type 0} (f : Row → X) (held : ℕ → List Bool → Bool) (k p : ℕ) (d : X) → k < length (c .gates) → p < rowCount k →
+      getD (getD (map (map f) (tablesHolding tweak c order held)) k []) p d ≡ f (row held k p)
+  row-entry f held k p d below small =
+      ap (λ rows. getD rows p d) (entry (map f) (λ k. tabulate (rowCount k) (row held k)) (length (c .gates)) k [] below) ∙ entry f (row held k) (rowCount k) p d small
 
-  -- each row stands there, whatever is made of it
-  pub row-member : {X : Type 0} (f : Row → X) (coin : ℕ → Bool) (k p : ℕ) → k < length (c .gates) → p < 2 ^ length (gateAt c k .wires) →
-      List·Memᴰ (f (rowFor tweak c coin k (order coin (gateAt c k) p))) (flatten (map (map f) (tablesBy order tweak c coin)))
-  row-member f coin k p below small =
-      flatten-member (Memᴰ·map f (tabulate-member (λ p. rowFor tweak c coin k (order coin (gateAt c k) p)) (2 ^ length (gateAt c k .wires)) p small))
-      (Memᴰ·map (map f)
-      (tabulate-member (λ k. tabulate (2 ^ length (gateAt c k .wires)) (λ p. rowFor tweak c coin k (order coin (gateAt c k) p))) (length (c .gates)) k below))
+  pub row-member : {X : Type 0} (f : Row → X) (held : ℕ → List Bool → Bool) (k p : ℕ) → k < length (c .gates) → p < rowCount k →
+      List·Memᴰ (f (row held k p)) (flatten (map (map f) (tablesHolding tweak c order held)))
+  row-member f held k p below small =
+      flatten-member (Memᴰ·map f (tabulate-member (row held k) (rowCount k) p small))
+      (Memᴰ·map (map f) (tabulate-member (λ k. tabulate (rowCount k) (row held k)) (length (c .gates)) k below))

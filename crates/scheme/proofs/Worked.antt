@@ -10,18 +10,18 @@ use Rattle.circuit.specs.Circuit.{Circuit, at, atAll, extended, values, result}
 use Rattle.circuit.specs.Numbers.{bit, bits, digits}
 use Rattle.scheme.specs.Coins.{_⊕_, colour}
 use Rattle.scheme.specs.Examples.{Works, examples, WorkedExamples}
-use Rattle.scheme.specs.Garbling.{Label, label, Row, Seen, opened, closed, seenAt, view, look, allActive}
+use Rattle.scheme.specs.Garbling.{Label, label, Row, Seen, opened, closed, seenAt, allHeld, look, active, view}
 use Rattle.scheme.specs.Opening.{Drawn, colourOf, value}
 use Rattle.scheme.specs.Promises.{Secure, Coloured}
 use Rattle.scheme.specs.Statement.{Statement}
-use Rattle.scheme.specs.Yao.{gateAt, rowFor, byColour, numbered, outputsOnly, yao}
+use Rattle.scheme.specs.Yao.{gateAt, rowOf, heldFor, byColour, numbered, outputsOnly, yao}
 use Rattle.scheme.proofs.Blocks.{sound}
 use Rattle.scheme.proofs.Derived.{deduction}
-use Rattle.scheme.proofs.Hidden.{hides-inputs}
 use Rattle.scheme.proofs.Layouts.{by-colour}
 use Rattle.scheme.proofs.Marked.{out-of-reach, not-told-apart}
 use Rattle.scheme.proofs.Missed.{near-misses}
 use Rattle.scheme.proofs.Opens.{right}
+use Rattle.scheme.proofs.Simulated.{simulatable, hides-if-simulatable}
 use Rattle.scheme.proofs.Schemes.{one-key-numbered, seen-by-derivation}
 use Rattle.scheme.proofs.Tables.{row-entry}
 
@@ -30,7 +30,7 @@ unfolding extended zipWith digits
 examples-work = ((refl, refl), ((refl, refl), ((refl, refl), ((refl, refl), ((refl, refl), ((refl, refl), ((refl, refl), tt)))))))
 
 -- keys of both colours of one wire are not active together
-never-both : (c : Circuit) (xs coins : List Bool) (w : ℕ) (b : Bool) → allActive yao c xs coins (label w b ∷ label w (not b) ∷ []) ≡ false
+never-both : (c : Circuit) (xs coins : List Bool) (w : ℕ) (b : Bool) → allHeld (λ v. active yao c xs coins v .colour) (label w b ∷ label w (not b) ∷ []) ≡ false
 never-both c xs coins w b = go b (colour (at coins w) (at (values c xs) w))
   where
     go : (b own : Bool) → (not (b ⊕ own) && (not (not b ⊕ own) && true)) ≡ false
@@ -40,17 +40,20 @@ never-both c xs coins w b = go b (colour (at coins w) (at (values c xs) w))
     go false false = refl
 
 module _ (c : Circuit) (k w : ℕ) (below : k < length (c .gates)) (same : gateAt c k .wires ≡ w ∷ w ∷ []) (xs coins : List Bool) (s : Seen) where
-  abbrev row : ℕ → Row
-  row p = rowFor numbered c (at coins) k (byColour (at coins) (gateAt c k) p)
+  abbrev held : ℕ → Bool
+  held v = active yao c xs coins v .colour
 
-  seen-at : (p : ℕ) → p < 4 → seenAt (view yao c xs coins) k p s ≡ look yao c xs coins (row p)
+  abbrev row : ℕ → Row
+  row p = rowOf numbered c k (byColour (at coins) (gateAt c k) p) (heldFor c (at coins) k (byColour (at coins) (gateAt c k) p))
+
+  seen-at : (p : ℕ) → p < 4 → seenAt (view yao c xs coins) k p s ≡ look held (row p)
   seen-at p small =
       let four : 2 ^ length (gateAt c k .wires) ≡ 4 = ap (λ ws. 2 ^ length ws) same in
-      row-entry byColour numbered c (look yao c xs coins) (at coins) k p s below (omega arith)
+      row-entry numbered c (λ k. byColour (at coins) (gateAt c k)) (look held) (heldFor c (at coins)) k p s below (omega arith)
 
-  shut : (p : ℕ) (b : Bool) → zipWith label (w ∷ w ∷ []) (bits 2 p) ≡ label w b ∷ label w (not b) ∷ [] → look yao c xs coins (row p) ≡ closed
+  shut : (p : ℕ) (b : Bool) → zipWith label (w ∷ w ∷ []) (bits 2 p) ≡ label w b ∷ label w (not b) ∷ [] → look held (row p) ≡ closed
   shut p b keys =
-      ap (λ ks. cond (allActive yao c xs coins ks) (opened (row p .holds)) closed) (ap (λ ws. zipWith label ws (bits (length ws) p)) same ∙ keys)
+      ap (λ ks. cond (allHeld held ks) (opened (row p .holds)) closed) (ap (λ ws. zipWith label ws (bits (length ws) p)) same ∙ keys)
       ∙ ap (λ t. cond t (opened (row p .holds)) closed) (never-both c xs coins w b)
 
   never-open : (seenAt (view yao c xs coins) k 0b01 s ≡ closed) × (seenAt (view yao c xs coins) k 0b10 s ≡ closed)
@@ -93,9 +96,10 @@ secure : Secure yao
 secure =
     record {
       right = right at;
-      one-key = one-key-numbered at byColour outputsOnly (λ c coins. by-colour c (at coins));
-      seen = seen-by-derivation at byColour outputsOnly (λ c coins. by-colour c (at coins));
-      hides = hides-inputs;
+      one-key = one-key-numbered at byColour outputsOnly by-colour;
+      seen = seen-by-derivation at byColour outputsOnly by-colour;
+      simulated = simulatable;
+      hides = hides-if-simulatable yao simulatable;
     }
 
 pub statement : Statement

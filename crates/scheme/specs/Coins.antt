@@ -23,6 +23,10 @@ colour coin value = coin ⊕ value
 abbrev pub activeColour : Circuit → List Bool → List Bool → ℕ → Bool
 activeColour c xs coins w = colour (at coins w) (at (values c xs) w)
 
+-- the colours of all wires under some coins; and as well the coins under which they have some colours
+abbrev pub coloursOf : List Bool → List Bool → List Bool
+coloursOf coins vs = map (λ w. colour (at coins w) (at vs w)) (counting 0 (length coins))
+
 -- the coins that give the values `after` the colours that the values `before` have under coins
 abbrev pub pairedBy : List Bool → List Bool → List Bool → List Bool
 pairedBy coins before after = map (λ w. at coins w ⊕ at before w ⊕ at after w) (counting 0 (length coins))

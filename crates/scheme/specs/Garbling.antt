@@ -64,6 +64,20 @@ pub record View : Type 0 where
   pub rows : List (List Seen)
   pub meanings : List Bool
 
+-- what an opener gets, and what it sees of it
+pub record Got (A : Type 0) : Type 0 where
+  pub transcript : Transcript A
+  pub view : View
+
+-- keys of which one holds those of some colours, one for each wire
+abbrev pub allHeld : (held : ℕ → Bool) → List Label → Bool
+allHeld held [] = true
+allHeld held (k ∷ ks) = not (k .colour ⊕ held (k .wire)) && allHeld held ks
+
+-- a row looks open, and shows the key in it, to who holds all its keys
+abbrev pub look : (held : ℕ → Bool) → Row → Seen
+look held r = cond (allHeld held (r .keys)) (opened (r .holds)) closed
+
 -- row p of gate k, or s if there is none
 abbrev pub seenAt : View → ℕ → ℕ → Seen → Seen
 seenAt v k p s = getD (getD (v .rows) k []) p s
@@ -94,20 +108,13 @@ module _ {A : Type 0} (S : Scheme A) (c : Circuit) where
     abbrev pub active : ℕ → Label
     active w = valueKey coins w (at (values c xs) w)
 
-    abbrev pub isActive : Label → Bool
-    isActive k = not (k .colour ⊕ active (k .wire) .colour)
-
-    abbrev pub allActive : List Label → Bool
-    allActive [] = true
-    allActive (k ∷ ks) = isActive k && allActive ks
-
-    abbrev pub look : Row → Seen
-    look r = cond (allActive (r .keys)) (opened (r .holds)) closed
-
     abbrev pub view : View
     view =
         record {
           keys = tabulate (c .inputs) (λ w. valueKey coins w (at xs w));
-          rows = map (map look) (S .tables c coins);
+          rows = map (map (look (λ w. active w .colour))) (S .tables c coins);
           meanings = meanings coins;
         }
+
+    abbrev pub got : Got A
+    got = record { transcript = sent xs coins; view = view }

@@ -5,6 +5,7 @@ pub mod Garbling
 pub mod Yao
 pub mod Opening
 pub mod Promises
+pub mod Simulation
 pub mod NearMisses
 pub mod Examples
 pub mod Statement

@@ -18,6 +18,7 @@ use Rattle.circuit.specs.declared.refusals.Failure.{Failure}
 use Rattle.circuit.specs.declared.refusals.Refusal.the-variants.{Malformed, Values}
 use Rattle.circuit.specs.declared.sheets.Sheet.{Sheet}
 use Rattle.scheme.specs.Coins.{pairedCoins, firstDifference, Paired, Differs}
+use Rattle.scheme.specs.Garbling.{got}
 use Rattle.scheme.specs.Promises.{Alike}
 use Rattle.scheme.specs.Yao.{yao}
 use Rattle.scheme.specs.declared.pairing.Pairing.{Pairing}
@@ -49,7 +50,7 @@ pub record SameResult (c : Circuit) (xs ys coins ds : List Bool) : Type 0 where
   -- those of the outputs, by which a result is read off, stay
   pub outputs : atAll ds (c .outputs) ≡ atAll coins (c .outputs)
   -- an opener sees the same of the second input with these coins as of the first with those given, and does not tell the two apart
-  pub alike : Alike yao c xs coins ys ds
+  pub alike : Alike (got yao c xs coins) (got yao c ys ds)
 
 -- what the answer means
 abbrev pub Means : Circuit → List Bool → List Bool → List Bool → Outcome → Type 0

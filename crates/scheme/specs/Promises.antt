@@ -1,5 +1,5 @@
--- What a garbling scheme promises: opening is right, of each wire one key can be derived, what is seen is what can be derived, and inputs with one result are
--- not told apart. Assumes nothing.
+-- What a garbling scheme promises: opening is right, of each wire one key can be derived, what is seen is what can be derived, all of it can be made from the
+-- result alone, and so inputs with one result are not told apart. Assumes nothing.
 use mathlib.Core.Bool.{Bool}
 use mathlib.Core.List.{List, map, flatten, Forall₂, List·Memᴰ}
 use mathlib.Core.Logic.{_↔_, _⊎_}
@@ -8,13 +8,26 @@ use Prim.Native.Nat.{ℕ, _<_}
 use lib.ListN.{length}
 use Rattle.std.specs.shelf.Lists.{All}
 use Rattle.circuit.specs.Circuit.{Circuit, WellFormed, wireCount, at, result}
-use Rattle.scheme.specs.Garbling.{Label, Row, Scheme, blocks, Seen, opened, closed, View, sent, active, view}
+use Rattle.scheme.specs.Garbling.{Label, Row, Scheme, blocks, Seen, opened, closed, View, Got, sent, active, view, got}
 use Rattle.scheme.specs.Opening.{Drawn, value, colourOf, evaluate}
 use Rattle.scheme.specs.Terms.{Sort, Term, _≈_, Derives, StaticallyEquivalent}
 
 -- equal terms are equal bytes, whatever is drawn and whatever the hash
 abbrev pub Sound : Type 0 → Type 0
 Sound A = (d : Drawn A) (s : Sort) (t u : Term A s) → t ≈ u → value d t ≡ value d u
+
+-- two that nobody tells apart: the same is seen, every test on blocks comes out the same, and the meanings are the same
+pub record Alike {A : Type 0} (g h : Got A) : Type 0 where
+  pub view : g .view ≡ h .view
+  pub transcripts : StaticallyEquivalent (blocks (g .transcript)) (blocks (h .transcript))
+  pub meanings : g .transcript .meanings ≡ h .transcript .meanings
+
+-- lists of n bits paired one to one, with none left out
+pub record OneToOne (n : ℕ) (there back : List Bool → List Bool) : Type 0 where
+  pub there-fits : (bs : List Bool) → length bs ≡ n → length (there bs) ≡ n
+  pub back-fits : (bs : List Bool) → length bs ≡ n → length (back bs) ≡ n
+  pub back-there : (bs : List Bool) → length bs ≡ n → back (there bs) ≡ bs
+  pub there-back : (bs : List Bool) → length bs ≡ n → there (back bs) ≡ bs
 
 module _ {A : Type 0} (S : Scheme A) where
   -- a circuit, a value for each input, and as many coins as the scheme draws
@@ -63,25 +76,30 @@ module _ {A : Type 0} (S : Scheme A) where
   abbrev pub SeenByDerivation : Type 0
   SeenByDerivation = (c : Circuit) (xs coins : List Bool) → Fits c xs coins → Sees c xs coins
 
-  -- what an opener gets of one run is not told apart from what it gets of another
-  pub record Alike (c : Circuit) (xs coins ys paired : List Bool) : Type 0 where
-    pub view : view S c xs coins ≡ view S c ys paired
-    pub transcripts : StaticallyEquivalent (blocks (sent S c xs coins)) (blocks (sent S c ys paired))
-    pub meanings : sent S c xs coins .meanings ≡ sent S c ys paired .meanings
+  -- 4. Simulated: whoever knows the circuit and the result makes, from bits drawn at random, what is not told apart from what an opener gets.
+  pub record Simulator (c : Circuit) : Type 0 where
+    pub simulated : (random result : List Bool) → Got A
+    -- for each input the random bits and the coins are paired one to one, with none left out
+    pub random : (xs coins : List Bool) → List Bool
+    pub coins : (xs random : List Bool) → List Bool
+    pub one-to-one : (xs : List Bool) → length xs ≡ c .inputs → OneToOne (S .coins c) (random xs) (coins xs)
+    pub alike : (xs cs : List Bool) → Fits c xs cs → Alike (got S c xs cs) (simulated (random xs cs) (result c xs))
+    -- the coin of an input follows from its own value and the random bits
+    pub own : (xs ys bits : List Bool) → length xs ≡ c .inputs → length ys ≡ c .inputs → length bits ≡ S .coins c → (w : ℕ) → w < c .inputs → at xs w ≡ at ys w →
+        at (coins xs bits) w ≡ at (coins ys bits) w
 
-  -- the coins for one input and those for another paired one to one, with none left out
+  abbrev pub Simulatable : Type 0
+  Simulatable = (c : Circuit) → WellFormed c → Simulator c
+
+  -- 5. Inputs hidden: two inputs with one result are not told apart, by as many coins of the one as of the other.
   pub record Matched (c : Circuit) (xs ys : List Bool) : Type 0 where
     pub there : List Bool → List Bool
     pub back : List Bool → List Bool
-    pub there-fits : (coins : List Bool) → length coins ≡ S .coins c → length (there coins) ≡ S .coins c
-    pub back-fits : (coins : List Bool) → length coins ≡ S .coins c → length (back coins) ≡ S .coins c
-    pub back-there : (coins : List Bool) → length coins ≡ S .coins c → back (there coins) ≡ coins
-    pub there-back : (coins : List Bool) → length coins ≡ S .coins c → there (back coins) ≡ coins
-    pub alike : (coins : List Bool) → length coins ≡ S .coins c → Alike c xs coins ys (there coins)
+    pub one-to-one : OneToOne (S .coins c) there back
+    pub alike : (coins : List Bool) → length coins ≡ S .coins c → Alike (got S c xs coins) (got S c ys (there coins))
     -- an input that is the same keeps its coin: so do all of the opener's own, whose values it knows
     pub own : (coins : List Bool) → length coins ≡ S .coins c → (w : ℕ) → w < c .inputs → at xs w ≡ at ys w → at (there coins) w ≡ at coins w
 
-  -- 4. Nothing but the result: inputs with one result are not told apart, by as many coins of the one as of the other.
   abbrev pub HidesInputs : Type 0
   HidesInputs =
       (c : Circuit) (xs ys : List Bool) → WellFormed c → length xs ≡ c .inputs → length ys ≡ c .inputs → result c xs ≡ result c ys → Matched c xs ys
@@ -90,4 +108,5 @@ module _ {A : Type 0} (S : Scheme A) where
     pub right : Right
     pub one-key : OneKey
     pub seen : SeenByDerivation
+    pub simulated : Simulatable
     pub hides : HidesInputs

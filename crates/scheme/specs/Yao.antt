@@ -22,23 +22,25 @@ turned coin ws bs = zipWith (λ w b. colour (coin w) b) ws bs
 abbrev pub Tweak : Type 0
 Tweak = (k : ℕ) → List Bool → List ℕ
 
--- the row of gate k that opens for keys of some colours: it holds the key of what the gate gives for the values that those colours mean
-abbrev pub rowFor : Tweak → Circuit → (coin : ℕ → Bool) → ℕ → List Bool → Row
-rowFor tweak c coin k cs =
-    record {
-      keys = zipWith label (gateAt c k .wires) cs;
-      tweak = tweak k cs;
-      holds = label (c .inputs + k) (colour (coin (c .inputs + k)) (at (gateAt c k .gives) (binary (turned coin (gateAt c k .wires) cs))));
-    }
+-- a row of gate k: the keys that open it have some colours, and in it is the key of the gate's own wire with another
+abbrev pub rowOf : Tweak → Circuit → ℕ → List Bool → Bool → Row
+rowOf tweak c k cs b = record { keys = zipWith label (gateAt c k .wires) cs; tweak = tweak k cs; holds = label (c .inputs + k) b }
+
+-- for each gate a row for each choice of colours, by what stands at each place and by what is held for it
+abbrev pub tablesHolding : Tweak → Circuit → (order : ℕ → ℕ → List Bool) → (held : ℕ → List Bool → Bool) → List (List Row)
+tablesHolding tweak c order held =
+    tabulate (length (c .gates)) (λ k. tabulate (2 ^ length (gateAt c k .wires)) (λ p. rowOf tweak c k (order k p) (held k (order k p))))
+
+-- the key that belongs into a row is that of what the gate gives for the values that the row's colours mean
+abbrev pub heldFor : Circuit → (coin : ℕ → Bool) → ℕ → List Bool → Bool
+heldFor c coin k cs = colour (coin (c .inputs + k)) (at (gateAt c k .gives) (binary (turned coin (gateAt c k .wires) cs)))
 
 -- the colours that open the row at place p of a gate's table
 abbrev pub Order : Type 0
 Order = (coin : ℕ → Bool) → Gate → (p : ℕ) → List Bool
 
--- for each gate a row for each choice of colours
 abbrev pub tablesBy : Order → Tweak → Circuit → (coin : ℕ → Bool) → List (List Row)
-tablesBy order tweak c coin =
-    tabulate (length (c .gates)) (λ k. tabulate (2 ^ length (gateAt c k .wires)) (λ p. rowFor tweak c coin k (order coin (gateAt c k) p)))
+tablesBy order tweak c coin = tablesHolding tweak c (λ k. order coin (gateAt c k)) (heldFor c coin)
 
 -- the scheme by four decisions: the coin that a wire goes by, the order of rows, what closes them besides their keys, and the wires whose meanings are sent
 abbrev pub yaoBy : (coin : List Bool → ℕ → Bool) → Order → Tweak → (decoded : Circuit → List ℕ) → Scheme Label
