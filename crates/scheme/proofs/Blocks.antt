@@ -1,15 +1,16 @@
 -- Exclusive or of bytes has its laws, so equal terms are equal bytes. Assumes nothing.
 use mathlib.Core.List.{List, [], _∷_, _++_, map, zipWith}
 use mathlib.Core.Path.{_≡_, refl, sym, ap, ap₂, _∙_}
-use Prim.Native.Nat.{ℕ, zero, suc, _+_, _/_, _%_, _^_}
+use Prim.Native.Nat.{ℕ, zero, suc, _+_, _*_, _/_, _%_, _^_, _<_}
 use native.Mathlib.Omega.{arith}
 use lib.Bits.{bitXor, xor-assoc, xor-comm, xor-self, xor-zero-r, xor-shr, xor-mod}
 use lib.ListN.{length, replicate}
+use Rattle.std.proofs.shelf.Bits.{mod-pow-add, mod-below, div-mul-add, mod-mul-add}
 use Rattle.circuit.specs.Numbers.{digits}
 use Rattle.circuit.proofs.Numbers.{length-digits}
-use Rattle.scheme.specs.Opening.{xorBytes, Drawn, Value, value}
+use Rattle.scheme.specs.Bytes.{xorBytes, Drawn, Value, value}
 use Rattle.scheme.specs.Promises.{Sound}
-use Rattle.scheme.specs.Terms.{Sort, block, text, Term, secret, public, xor, pad, tweak, _then_, same, flip, chain, regroup, swap, unit, twice, numbers, in-xor, in-pad, in-text, _≈_}
+use Rattle.scheme.specs.Terms.{Sort, block, text, Term, secret, public, xor, pad, tweak, _then_, same, flip, chain, regroup, swap, unit, twice, numbers, wraps, in-xor, in-pad, in-text, _≈_}
 
 bytes-comm : (a b : List ℕ) → xorBytes a b ≡ xorBytes b a
 unfolding zipWith
@@ -60,6 +61,17 @@ bytes-digits (suc n) x y =
     bytes-push (digits 256 n (x / 256)) (digits 256 n (y / 256)) (x % 256) (y % 256) (length-digits 256 n (x / 256) ∙ sym (length-digits 256 n (y / 256)))
     ∙ ap₂ (λ (l : List ℕ) (d : ℕ). l ++ (d ∷ [])) (bytes-digits n (x / 256) (y / 256) ∙ ap (digits 256 n) (sym (xor-shr x y 8))) (sym (xor-mod x y 8))
 
+digits-wrap : (n x : ℕ) → digits 256 n (x % 2 ^ (8 * n)) ≡ digits 256 n x
+unfolding digits
+digits-wrap zero x = refl
+digits-wrap (suc n) x =
+    let high = x / 256 % 2 ^ (8 * n) in
+    let low = x % 256 in
+    let small : low < 256 = mod-below x 256 (omega arith) in
+    let split : x % 2 ^ (8 * suc n) ≡ high * 256 + low = ap (λ e. x % 2 ^ e) (omega arith) ∙ mod-pow-add x (8 * n) 8 in
+    ap (digits 256 (suc n)) split
+    ∙ ap₂ (λ (l : List ℕ) (d : ℕ). l ++ (d ∷ [])) (ap (digits 256 n) (div-mul-add high 256 low small) ∙ digits-wrap n (x / 256)) (mod-mul-add high 256 low small)
+
 no-bytes : digits 256 16 0 ≡ replicate 16 0
 unfolding digits
 no-bytes = refl
@@ -82,6 +94,7 @@ module _ {A : Type 0} (d : Drawn A) where
   value-alike (unit t) = rw no-bytes (bytes-zero 16 (value d t) (value-size t))
   value-alike (twice t) = rw no-bytes (bytes-self 16 (value d t) (value-size t))
   value-alike (numbers m n) = bytes-digits 16 m n
+  value-alike (wraps n) = sym (digits-wrap 16 n)
   value-alike (in-xor e f) = ap₂ xorBytes (value-alike e) (value-alike f)
   value-alike (in-pad e) = ap (λ (p : List (List ℕ) × List ℕ). d .hash (p .0) (p .1)) (value-alike e)
   value-alike (in-text e f) = ap₂ (λ (k : List ℕ) (p : List (List ℕ) × List ℕ). (k ∷ p .0, p .1)) (value-alike e) (value-alike f)

@@ -8,11 +8,12 @@ mod Layouts
 mod Reach
 mod Known
 mod Runs
+mod Schemes
 mod Simulated
 mod Opens
-mod Schemes
 mod Missed
 mod Worked
+mod Stated
 mod Pairs
 mod Hidden
 mod Differences

@@ -7,8 +7,8 @@ use Prim.Native.Nat.{ℕ, zero, suc}
 use lib.ListN.{length, getD}
 use Rattle.std.specs.shelf.Lists.{All}
 use Rattle.scheme.specs.Coins.{_⊕_}
-use Rattle.scheme.specs.Marking.{Marking, tweakOf, marked, OutOfReach, exchanged, Simulates, NotToldApart}
-use Rattle.scheme.specs.Terms.{Sort, block, text, Term, secret, public, xor, pad, tweak, _then_, Equal, same, flip, chain, regroup, swap, unit, twice, numbers, in-xor, in-pad, in-text, _≈_, substitute, Recipe, run, Derives, StaticallyEquivalent}
+use Rattle.scheme.specs.Marking.{Marking, tweakOf, marked, OutOfReach, Exchange, exchanged, Becomes, Carried, NotToldApart}
+use Rattle.scheme.specs.Terms.{Sort, block, text, Term, secret, public, xor, pad, tweak, _then_, Equal, same, flip, chain, regroup, swap, unit, twice, numbers, wraps, in-xor, in-pad, in-text, _≈_, substitute, Recipe, run, Derives, StaticallyEquivalent}
 use Rattle.scheme.proofs.Colours.{xor-assoc, xor-comm, xor-same, xor-false}
 
 -- equal texts have one tweak, and equal terms are marked alike
@@ -30,6 +30,7 @@ module _ {A : Type 0} (m : Marking A) where
   marked-alike (unit t) = xor-false (marked m t)
   marked-alike (twice t) = xor-same (marked m t)
   marked-alike (numbers a b) = refl
+  marked-alike (wraps n) = refl
   marked-alike (in-xor e f) = ap₂ _⊕_ (marked-alike e) (marked-alike f)
   marked-alike (in-pad e) = ap₂ (λ (x : Bool) (ns : List ℕ). x && m .rows ns) (marked-alike e) (same-tweak e)
   marked-alike (in-text e f) = ap₂ _||_ (marked-alike e) (marked-alike f)
@@ -61,7 +62,7 @@ cond-alike a b t t′ u u′ e f g = rw (e, f) (go b)
     go true = same
     go false = g
 
-module _ {A : Type 0} (m : Marking A) (f : List ℕ → Term A block) where
+module _ {A : Type 0} (m : Marking A) (f : Exchange A) where
   exchange-alike : {s : Sort} {t u : Term A s} → t ≈ u → exchanged m f t ≈ exchanged m f u
   unfolding exchanged
   exchange-alike same = same
@@ -72,48 +73,47 @@ module _ {A : Type 0} (m : Marking A) (f : List ℕ → Term A block) where
   exchange-alike (unit t) = unit (exchanged m f t)
   exchange-alike (twice t) = twice (exchanged m f t)
   exchange-alike (numbers a b) = numbers a b
+  exchange-alike (wraps n) = wraps n
   exchange-alike (in-xor e d) = in-xor (exchange-alike e) (exchange-alike d)
   exchange-alike (in-pad {t = t} {t′ = t′} e) =
-      cond-alike (marked m t) (marked m t′) (f (tweakOf t)) (f (tweakOf t′)) (pad (exchanged m f t)) (pad (exchanged m f t′))
-      (marked-alike m e) (ap f (same-tweak e)) (in-pad (exchange-alike e))
+      cond-alike (marked m t) (marked m t′) (f .pads (tweakOf t)) (f .pads (tweakOf t′)) (pad (exchanged m f t)) (pad (exchanged m f t′))
+      (marked-alike m e) (ap (f .pads) (same-tweak e)) (in-pad (exchange-alike e))
   exchange-alike (in-text e d) = in-text (exchange-alike e) (exchange-alike d)
 
   -- the first list has no marked term, and by the exchange each recipe's outcome becomes its outcome from the second
-  pub simulates-unmarked : {a e : List (Term A block)} → Simulates m f a e → All (λ t. marked m t ≡ false) a
-  simulates-unmarked Forall₂·nil = tt
-  simulates-unmarked (Forall₂·cons h t) = (h .0, simulates-unmarked t)
+  pub becomes-unmarked : {a e : List (Term A block)} → Becomes m f a e → All (λ t. marked m t ≡ false) a
+  becomes-unmarked Forall₂·nil = tt
+  becomes-unmarked (Forall₂·cons h t) = (h .0, becomes-unmarked t)
 
-  item-exchanged : {a e : List (Term A block)} → Simulates m f a e → (i : ℕ) → exchanged m f (getD a i (public 0)) ≈ getD e i (public 0)
+  item-exchanged : {a e : List (Term A block)} → Becomes m f a e → (i : ℕ) → exchanged m f (getD a i (public 0)) ≈ getD e i (public 0)
   unfolding exchanged
   item-exchanged Forall₂·nil i = same
   item-exchanged (Forall₂·cons h t) zero = h .1
   item-exchanged (Forall₂·cons h t) (suc i) = item-exchanged t i
 
-  module _ (a e : List (Term A block)) (sim : Simulates m f a e) where
+  module _ (a e : List (Term A block)) (becomes : Becomes m f a e) where
     recipe-exchanged : {s : Sort} (r : Recipe s) → exchanged m f (run a r) ≈ run e r
     unfolding exchanged substitute
-    recipe-exchanged (secret i) = item-exchanged sim i
+    recipe-exchanged (secret i) = item-exchanged becomes i
     recipe-exchanged (public n) = same
     recipe-exchanged (xor r q) = in-xor (recipe-exchanged r) (recipe-exchanged q)
-    recipe-exchanged (pad r) = rw (recipe-unmarked m a (simulates-unmarked sim) r) (in-pad (recipe-exchanged r))
+    recipe-exchanged (pad r) = rw (recipe-unmarked m a (becomes-unmarked becomes) r) (in-pad (recipe-exchanged r))
     recipe-exchanged (tweak ns) = same
     recipe-exchanged (k then r) = in-text (recipe-exchanged k) (recipe-exchanged r)
 
     same-outcome : (r q : Recipe block) → run a r ≈ run a q → run e r ≈ run e q
     same-outcome r q h = chain (flip (recipe-exchanged r)) (chain (exchange-alike h) (recipe-exchanged q))
 
-    same-secret : (r : Recipe block) (k : A) → run a r ≈ secret k → run e r ≈ secret k
-    unfolding exchanged
-    same-secret r k h = chain (flip (recipe-exchanged r)) (exchange-alike h)
+becomes-size : {A : Type 0} (m : Marking A) (f : Exchange A) {a e : List (Term A block)} → Becomes m f a e → length a ≡ length e
+becomes-size m f Forall₂·nil = refl
+becomes-size m f (Forall₂·cons h t) = ap suc (becomes-size m f t)
 
-simulates-size : {A : Type 0} (m : Marking A) (f : List ℕ → Term A block) {a e : List (Term A block)} → Simulates m f a e → length a ≡ length e
-simulates-size m f Forall₂·nil = refl
-simulates-size m f (Forall₂·cons h t) = ap suc (simulates-size m f t)
+pub carried : {A : Type 0} → Carried A
+carried m f a e becomes r t u is h = chain (flip (recipe-exchanged m f a e becomes r)) (chain (exchange-alike m f h) is)
 
 pub not-told-apart : {A : Type 0} → NotToldApart A
 not-told-apart m n f g a e there back =
     record {
-      size = simulates-size m f there;
+      size = becomes-size m f there;
       tests = λ r q. (same-outcome m f a e there r q, same-outcome n g e a back r q);
-      secrets = λ r k. (same-secret m f a e there r k, same-secret n g e a back r k);
     }

@@ -1,28 +1,28 @@
 -- The schemes that come near break their promises. Assumes nothing.
 use mathlib.Core.Bool.{Bool, true, false, not}
-use mathlib.Core.List.{List, [], _∷_, map, zipWith, flatten}
+use mathlib.Core.List.{List, [], _∷_, _++_, map, zipWith, flatten}
 use mathlib.Core.Path.{_≡_, refl, sym, ap, _∙_}
 use Prim.Native.Nat.{ℕ, zero, suc, _+_, _<_}
 use native.Mathlib.Omega.{arith}
 use lib.ListN.{length, getD}
 use Rattle.std.specs.Iters.{counting}
 use Rattle.std.proofs.shelf.Counted.{getD-map-counting}
-use Rattle.std.proofs.shelf.Lists.{length-map}
+use Rattle.std.proofs.shelf.Lists.{length-map, map-append, getD-append-add}
 use Rattle.std.proofs.shelf.Tests.{true≢false}
 use Rattle.circuit.specs.Circuit.{Circuit, WellFormed, GoodGates, Below, wireCount, at, atAll, extended, values, result}
 use Rattle.circuit.specs.Numbers.{binary, digits}
 use Rattle.circuit.proofs.Numbers.{bits-binary, binary-lt}
 use Rattle.scheme.specs.Coins.{_⊕_, colour}
 use Rattle.scheme.specs.Examples.{conjunction}
-use Rattle.scheme.specs.Garbling.{Label, label, Scheme, blocks, Seen, opened, closed, View, seenAt, sent, active, look, view}
-use Rattle.scheme.specs.NearMisses.{withoutCoins, byValue, rowsByValue, unnumbered, withoutNumbers, withAllMeanings, twoGates, overlaid, NearMisses}
+use Rattle.scheme.specs.Garbling.{Key, key, Scheme, blocks, Seen, opened, closed, View, seenAt, look, meanings, sent, active, view}
+use Rattle.scheme.specs.NearMisses.{withoutCoins, byValue, rowsByValue, unnumbered, withoutNumbers, withInner, withInnerMeanings, twoGates, overlaid, NearMisses}
 use Rattle.scheme.specs.Promises.{Fits, OneKey, HidesInputs, Matched}
 use Rattle.scheme.specs.Terms.{block, Term, secret, xor, pad, tweak, _then_, same, chain, swap, in-xor, _≈_, substitute, run}
 use Rattle.scheme.specs.Yao.{gateAt, turned, rowOf, heldFor, byColour, numbered, outputsOnly}
-use Rattle.scheme.proofs.Colours.{xor-same, xor-back}
+use Rattle.scheme.proofs.Colours.{xor-same, xor-back, xor-false}
 use Rattle.scheme.proofs.Derived.{off}
 use Rattle.scheme.proofs.Layouts.{by-colour, by-value, one-gate}
-use Rattle.scheme.proofs.Opens.{right}
+use Rattle.scheme.proofs.Opens.{right, outputs-right}
 use Rattle.scheme.proofs.Rows.{turned-values, active-row, looks-open}
 use Rattle.scheme.proofs.Schemes.{one-key-of, one-key-numbered, seen-by-derivation}
 use Rattle.scheme.proofs.Tables.{row-entry}
@@ -39,18 +39,30 @@ conjunction-formed = (omega arith, omega arith, omega arith, omega arith, gates,
     outputs zero below = omega arith
     outputs (suc k) below = absurd (omega arith)
 
+two-gates-formed : WellFormed twoGates
+two-gates-formed = (omega arith, omega arith, omega arith, omega arith, gates, outputs)
+  where
+    gates : GoodGates 1 (twoGates .gates)
+    gates zero below = (refl, omega arith, omega arith, refl)
+    gates (suc zero) below = (refl, omega arith, omega arith, refl)
+    gates (suc (suc k)) below = absurd (omega arith)
+
+    outputs : Below 3 (twoGates .outputs)
+    outputs zero below = omega arith
+    outputs (suc k) below = absurd (omega arith)
+
 -- inputs 1 0 and 0 1 have one result
 one-result : result conjunction (true ∷ false ∷ []) ≡ result conjunction (false ∷ true ∷ [])
 unfolding extended digits
 one-result = refl
 
-matched : (S : Scheme Label) → HidesInputs S → Matched S conjunction (true ∷ false ∷ []) (false ∷ true ∷ [])
+matched : (S : Scheme Key) → HidesInputs S → Matched S conjunction (true ∷ false ∷ []) (false ∷ true ∷ [])
 matched S hides = hides conjunction (true ∷ false ∷ []) (false ∷ true ∷ []) conjunction-formed refl refl one-result
 
 -- without coins the first key shows it
 without-coins : HidesInputs withoutCoins → ⊥
 without-coins hides =
-    true≢false (ap (λ (v : View). getD (v .keys) 0 (label 0 false) .colour) (matched withoutCoins hides .alike (false ∷ false ∷ false ∷ []) refl .view))
+    true≢false (ap (λ (v : View). getD (v .keys) 0 (key 0 false) .colour) (matched withoutCoins hides .alike (false ∷ false ∷ false ∷ []) refl .view))
 
 -- in the order of values the place of the open row shows it, whatever the coins
 isOpen : Seen → Bool
@@ -86,62 +98,82 @@ place-tells c xs coins fits k below s =
     row-entry numbered c (λ k. byValue (at coins) (gateAt c k)) (look held) (heldFor c (at coins)) k (binary vs) s below (rw sized at (binary-lt vs))
     ∙ ap (λ cs. look held (rowOf numbered c k cs (heldFor c (at coins) k cs))) colours
     ∙ looks-open held (rowOf numbered c k (map held ws) (heldFor c (at coins) k (map held ws))) ws refl
-    ∙ ap (λ b. opened (label (c .inputs + k) b)) (active-row c (fits .well-formed) xs (fits .inputs) (at coins) k below)
+    ∙ ap (λ b. opened (key (c .inputs + k) b)) (active-row c (fits .well-formed) xs (fits .inputs) (at coins) k below)
 
--- the meaning of an input shows it
-with-all-meanings : HidesInputs withAllMeanings → ⊥
-with-all-meanings hides =
-    let m = matched withAllMeanings hides in
+-- with inner meanings the key in an open row shows it
+one-zero : result twoGates (true ∷ []) ≡ result twoGates (false ∷ [])
+unfolding extended
+one-zero = refl
+
+last : View → Seen
+last v = seenAt v 0 3 closed
+
+last-of-one : last (view withInnerMeanings twoGates (true ∷ []) (false ∷ false ∷ false ∷ [])) ≡ opened (key 1 true)
+unfolding extended zipWith digits last
+last-of-one = refl
+
+-- where the input's coin is 1 that row opens for input 0
+last-of-zero : (coins : List Bool) → at coins 0 ≡ true → last (view withInnerMeanings twoGates (false ∷ []) coins) ≡ opened (key 1 (at coins 1 ⊕ false))
+unfolding extended zipWith digits last
+last-of-zero coins is = rw is
+
+colour-of : Seen → Bool
+colour-of (opened k) = k .colour
+colour-of closed = false
+
+with-inner-meanings : HidesInputs withInnerMeanings → ⊥
+unfolding colour-of
+with-inner-meanings hides =
+    let m = hides twoGates (true ∷ []) (false ∷ []) two-gates-formed refl refl one-zero in
     let none : List Bool = false ∷ false ∷ false ∷ [] in
     let seen = m .alike none refl .view in
-    let colour : true ≡ at (m .there none) 0 ⊕ false = ap (λ (v : View). getD (v .keys) 0 (label 0 false) .colour) seen in
-    let coin : false ≡ at (m .there none) 0 = ap (λ (v : View). at (v .meanings) 0) seen in
-    true≢false (colour ∙ ap (λ b. b ⊕ false) (sym coin))
+    let coins = m .there none in
+    let input : true ≡ at coins 0 ⊕ false = ap (λ (v : View). getD (v .keys) 0 (key 0 false) .colour) seen in
+    let meaning : false ≡ at coins 1 = ap (λ (v : View). at (v .meanings) 1) seen in
+    let row = sym last-of-one ∙ ap last seen ∙ last-of-zero coins (sym (xor-false (at coins 0)) ∙ sym input) in
+    true≢false (ap colour-of row ∙ ap (λ b. b ⊕ false) (sym meaning))
+
+meanings-tell : (c : Circuit) (xs coins : List Bool) (k : ℕ) → k < length (c .gates) →
+    colour (at (meanings withInnerMeanings c coins) (length (c .outputs) + k)) (active withInnerMeanings c xs coins (c .inputs + k) .colour) ≡ at (values c xs) (c .inputs + k)
+meanings-tell c xs coins k below =
+    let inner = counting (c .inputs) (length (c .gates)) in
+    let meaning : at (meanings withInnerMeanings c coins) (length (c .outputs) + k) ≡ at coins (c .inputs + k) =
+    ap (λ ms. at ms (length (c .outputs) + k)) (map-append (at coins) (c .outputs) inner)
+    ∙ ap (λ n. at (map (at coins) (c .outputs) ++ map (at coins) inner) (n + k)) (sym (length-map (c .outputs) (at coins)))
+    ∙ getD-append-add (map (at coins) (c .outputs)) (map (at coins) inner) k false
+    ∙ getD-map-counting (at coins) (c .inputs) (length (c .gates)) k (c .inputs + k) false below refl in
+    ap (λ b. colour b (active withInnerMeanings c xs coins (c .inputs + k) .colour)) meaning ∙ xor-back (at coins (c .inputs + k)) (at (values c xs) (c .inputs + k))
 
 -- without gate numbers two rows have one pad, and laid over each other they are rid of it
 overlay : {A : Type 0} (t u p q : Term A block) → xor (xor t p) (xor (xor u p) (xor (xor u q) q)) ≈ t
 overlay t u p q = chain (in-xor same (chain (in-xor (swap u p) (off u q)) (off p u))) (off t p)
 
-overlay-tells : run (blocks (sent withoutNumbers twoGates (true ∷ []) (false ∷ false ∷ false ∷ []))) overlaid ≈ secret (label 1 false)
+overlay-tells : run (blocks (sent withoutNumbers twoGates (true ∷ []) (false ∷ false ∷ false ∷ []))) overlaid ≈ secret (key 1 false)
 unfolding substitute flatten zipWith digits
 overlay-tells =
-    overlay (secret (label 1 false)) (secret (label 2 false)) (pad (secret (label 0 false) then secret (label 0 false) then tweak (0 ∷ [])))
-    (pad (secret (label 0 true) then secret (label 0 true) then tweak (3 ∷ [])))
-
-two-gates-formed : WellFormed twoGates
-two-gates-formed = (omega arith, omega arith, omega arith, omega arith, gates, outputs)
-  where
-    gates : GoodGates 1 (twoGates .gates)
-    gates zero below = (refl, omega arith, omega arith, refl)
-    gates (suc zero) below = (refl, omega arith, omega arith, refl)
-    gates (suc (suc k)) below = absurd (omega arith)
-
-    outputs : Below 3 (twoGates .outputs)
-    outputs zero below = omega arith
-    outputs (suc k) below = absurd (omega arith)
+    overlay (secret (key 1 false)) (secret (key 2 false)) (pad (secret (key 0 false) then secret (key 0 false) then tweak (0 ∷ [])))
+    (pad (secret (key 0 true) then secret (key 0 true) then tweak (3 ∷ [])))
 
 without-numbers : OneKey withoutNumbers → ⊥
 unfolding extended
 without-numbers one =
     let fits : Fits withoutNumbers twoGates (true ∷ []) (false ∷ false ∷ false ∷ []) = record { well-formed = two-gates-formed; inputs = refl; drawn = refl } in
-    true≢false (sym (one twoGates (true ∷ []) (false ∷ false ∷ false ∷ []) fits (label 1 false) .0 (overlaid, overlay-tells) .1))
+    true≢false (sym (one twoGates (true ∷ []) (false ∷ false ∷ false ∷ []) fits (key 1 false) .0 (overlaid, overlay-tells) .1))
 
 pub near-misses : NearMisses
 near-misses =
     let none : List Bool → ℕ → Bool = λ coins w. false in
-    let all : Circuit → List ℕ = λ c. counting 0 (wireCount c) in
     record {
       without-coins = without-coins;
       rows-by-value = rows-by-value;
       without-numbers = without-numbers;
-      with-all-meanings = with-all-meanings;
+      with-inner-meanings = with-inner-meanings;
       colour-tells = λ c xs coins w. refl;
       place-tells = place-tells;
       overlay-tells = overlay-tells;
       one-gate = λ c few. one-key-of at byColour outputsOnly by-colour unnumbered c (one-gate c few);
-      meanings-tell = λ c xs coins w below.
-          ap (λ b. colour b (active withAllMeanings c xs coins w .colour)) (getD-map-counting (at coins) 0 (wireCount c) w w false below (omega arith)) ∙ xor-back (at coins w) (at (values c xs) w);
-      without-coins-else = (right none, one-key-numbered none byColour outputsOnly by-colour, seen-by-derivation none byColour outputsOnly by-colour);
-      rows-by-value-else = (one-key-numbered at byValue outputsOnly by-value, seen-by-derivation at byValue outputsOnly by-value);
-      with-all-meanings-else = (one-key-numbered at byColour all by-colour, seen-by-derivation at byColour all by-colour);
+      meanings-tell = meanings-tell;
+      right-too = (outputs-right none numbered, outputs-right at unnumbered, right at numbered (λ c. counting (c .inputs) (length (c .gates))));
+      one-key-too = (one-key-numbered none byColour outputsOnly by-colour, one-key-numbered at byValue outputsOnly by-value, one-key-numbered at byColour withInner by-colour);
+      seen-too = (seen-by-derivation none byColour outputsOnly by-colour, seen-by-derivation at byValue outputsOnly by-value, seen-by-derivation at byColour withInner by-colour);
     }

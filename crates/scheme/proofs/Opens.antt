@@ -9,37 +9,38 @@ use Rattle.std.specs.Iters.{counting}
 use Rattle.std.specs.shelf.Lists.{All}
 use Rattle.std.proofs.shelf.Counted.{length-map-counting, getD-map-counting, map-counting-more}
 use Rattle.std.proofs.shelf.Elements.{all-from-getD}
-use Rattle.std.proofs.shelf.Lists.{getD-map, length-map, drop-more, drop-all, drop-drop, getD-drop}
+use Rattle.std.proofs.shelf.Lists.{append-nil, length-map, drop-more, drop-all, drop-drop, getD-drop}
 use Rattle.circuit.specs.Circuit.{Circuit, WellFormed, wireCount, noGate, at, atAll, values, result}
 use Rattle.circuit.specs.Numbers.{binary, bits}
 use Rattle.circuit.specs.declared.gates.Gate.{Gate}
 use Rattle.circuit.proofs.Numbers.{bits-binary, binary-lt}
+use Rattle.scheme.specs.Bytes.{xorBytes, colourOf, Drawn, value}
 use Rattle.scheme.specs.Coins.{_⊕_, colour}
-use Rattle.scheme.specs.Garbling.{Label, label, Scheme, textOf, tabulate, valueKey, cipher, sent, active}
-use Rattle.scheme.specs.Opening.{xorBytes, colourOf, Hash, Drawn, value, openRow, openGate, heldAt, openGates, decode, evaluate}
+use Rattle.scheme.specs.Garbling.{Key, key, Scheme, textOf, tabulate, valueKey, cipher, sent, active}
+use Rattle.scheme.specs.Opening.{Tweak, openRow, openGate, heldAt, openGates, decode, evaluateBy}
 use Rattle.scheme.specs.Promises.{Fits, Coloured, Right}
 use Rattle.scheme.specs.Terms.{block, Term, secret, xor, pad}
-use Rattle.scheme.specs.Yao.{gateAt, rowOf, heldFor, tablesBy, yaoBy, byColour, numbered, outputsOnly}
+use Rattle.scheme.specs.Yao.{gateAt, rowOf, heldFor, tablesBy, yaoBy, byColour, outputsOnly}
 use Rattle.scheme.proofs.Blocks.{sound}
 use Rattle.scheme.proofs.Colours.{xor-back}
 use Rattle.scheme.proofs.Derived.{off}
 use Rattle.scheme.proofs.Rows.{input-value, gate-wires, wires-below, active-row, keys-held}
 use Rattle.scheme.proofs.Tables.{row-entry, equal-tabulate}
 
-text-value : (d : Drawn Label) (ks : List Label) (ns : List ℕ) → value d (textOf (map secret ks) ns) ≡ (map (d .secrets) ks, ns)
+text-value : (d : Drawn Key) (ks : List Key) (ns : List ℕ) → value d (textOf (map secret ks) ns) ≡ (map (d .secrets) ks, ns)
 unfolding value
 text-value d [] ns = refl
 text-value d (k ∷ ks) ns = ap (λ (p : List (List ℕ) × List ℕ). (d .secrets k ∷ p .0, p .1)) (text-value d ks ns)
 
 -- a pad added twice is gone
-taken-off : (d : Drawn Label) (t u : Term Label block) → xorBytes (value d (xor t u)) (value d u) ≡ value d t
+taken-off : (d : Drawn Key) (t u : Term Key block) → xorBytes (value d (xor t u)) (value d u) ≡ value d t
 unfolding value
 taken-off d t u = sound d block (xor (xor t u) u) t (off t u)
 
-module _ (coin : List Bool → ℕ → Bool) (c : Circuit) (good : WellFormed c) (xs coins : List Bool) (fit : length xs ≡ c .inputs) (d : Drawn Label)
-    (shown : (k : Label) → k .wire < wireCount c → colourOf (d .secrets k) ≡ k .colour) where
-  abbrev S : Scheme Label
-  S = yaoBy coin byColour numbered outputsOnly
+module _ (coin : List Bool → ℕ → Bool) (tweak : Tweak) (decoded : Circuit → List ℕ) (c : Circuit) (good : WellFormed c) (xs coins : List Bool) (fit : length xs ≡ c .inputs) (d : Drawn Key)
+    (shown : (k : Key) → k .wire < wireCount c → colourOf (d .secrets k) ≡ k .colour) where
+  abbrev S : Scheme Key
+  S = yaoBy coin byColour tweak decoded
 
   -- the colour of the active key of a wire, and its bytes
   abbrev shade : ℕ → Bool
@@ -49,7 +50,7 @@ module _ (coin : List Bool → ℕ → Bool) (c : Circuit) (good : WellFormed c)
   held w = d .secrets (active S c xs coins w)
 
   abbrev tables : List (List (List ℕ))
-  tables = map (map (λ t. value d t)) (map (map (cipher S c coins)) (tablesBy byColour numbered c (coin coins)))
+  tables = map (map (λ t. value d t)) (map (map (cipher S c coins)) (tablesBy byColour tweak c (coin coins)))
 
   held-of : (n : ℕ) (ws : List ℕ) → All (λ w. w < n) ws → heldAt (tabulate n held) ws ≡ map held ws
   held-of n [] all = refl
@@ -74,59 +75,61 @@ module _ (coin : List Bool → ℕ → Bool) (c : Circuit) (good : WellFormed c)
     sized = length-map wires shade
 
     -- the row that the colours name
-    row-there : getD (getD tables k []) (binary colours) [] ≡ value d (cipher S c coins (rowOf numbered c k colours (heldFor c (coin coins) k colours)))
+    row-there : getD (getD tables k []) (binary colours) [] ≡ value d (cipher S c coins (rowOf tweak c k colours (heldFor c (coin coins) k colours)))
     row-there =
         let n = length wires in
         let small : binary colours < 2 ^ n = rw sized at (binary-lt colours) in
-        ap (λ tables. getD (getD tables k []) (binary colours) []) (map-map (map (λ t. value d t)) (map (cipher S c coins)) (tablesBy byColour numbered c (coin coins))
-        ∙ ap (λ f. map f (tablesBy byColour numbered c (coin coins))) (fun-ext (map-map (λ t. value d t) (cipher S c coins))))
-        ∙ row-entry numbered c (λ k. byColour (coin coins) (gateAt c k)) (λ r. value d (cipher S c coins r)) (heldFor c (coin coins)) k (binary colours) [] below small
-        ∙ ap (λ cs. value d (cipher S c coins (rowOf numbered c k cs (heldFor c (coin coins) k cs)))) (bits-binary n colours sized)
+        ap (λ tables. getD (getD tables k []) (binary colours) []) (map-map (map (λ t. value d t)) (map (cipher S c coins)) (tablesBy byColour tweak c (coin coins))
+        ∙ ap (λ f. map f (tablesBy byColour tweak c (coin coins))) (fun-ext (map-map (λ t. value d t) (cipher S c coins))))
+        ∙ row-entry tweak c (λ k. byColour (coin coins) (gateAt c k)) (λ r. value d (cipher S c coins r)) (heldFor c (coin coins)) k (binary colours) [] below small
+        ∙ ap (λ cs. value d (cipher S c coins (rowOf tweak c k cs (heldFor c (coin coins) k cs)))) (bits-binary n colours sized)
 
     -- its pad
-    pad-there : d .hash (map held wires) (numbered k colours) ≡ value d (pad (textOf (map secret (zipWith label wires colours)) (numbered k colours)))
+    pad-there : d .hash (map held wires) (tweak k colours) ≡ value d (pad (textOf (map secret (zipWith key wires colours)) (tweak k colours)))
     unfolding value
     pad-there =
         sym (ap (λ (p : List (List ℕ) × List ℕ). d .hash (p .0) (p .1))
-        (text-value d (zipWith label wires colours) (numbered k colours)
-        ∙ ap (λ (ks : List (List ℕ)). (ks, numbered k colours)) (ap (map (d .secrets)) (keys-held shade wires) ∙ secrets-held wires)))
+        (text-value d (zipWith key wires colours) (tweak k colours)
+        ∙ ap (λ (ks : List (List ℕ)). (ks, tweak k colours)) (ap (map (d .secrets)) (keys-held shade wires) ∙ secrets-held wires)))
 
-    gate-opens : openGate (d .hash) k (heldAt (tabulate (c .inputs + k) held) wires) (getD tables k []) ≡ held (c .inputs + k)
+    gate-opens : openGate tweak (d .hash) k (heldAt (tabulate (c .inputs + k) held) wires) (getD tables k []) ≡ held (c .inputs + k)
     unfolding value
     gate-opens =
-        ap (λ ks. openGate (d .hash) k ks (getD tables k [])) (held-of (c .inputs + k) wires (gate-wires c good k below))
-        ∙ ap (λ cs. openRow (d .hash) k (map held wires) (getD tables k []) (binary cs)) (colours-held wires (wires-below c good k below))
+        ap (λ ks. openGate tweak (d .hash) k ks (getD tables k [])) (held-of (c .inputs + k) wires (gate-wires c good k below))
+        ∙ ap (openRow tweak (d .hash) k (map held wires) (getD tables k [])) (colours-held wires (wires-below c good k below))
         ∙ ap₂ xorBytes row-there pad-there
-        ∙ taken-off d (secret (rowOf numbered c k colours (heldFor c (coin coins) k colours) .holds)) (pad (textOf (map secret (zipWith label wires colours)) (numbered k colours)))
-        ∙ ap (λ b. d .secrets (label (c .inputs + k) b)) (active-row c good xs fit (coin coins) k below)
+        ∙ taken-off d (secret (rowOf tweak c k colours (heldFor c (coin coins) k colours) .holds)) (pad (textOf (map secret (zipWith key wires colours)) (tweak k colours)))
+        ∙ ap (λ b. d .secrets (key (c .inputs + k) b)) (active-row c good xs fit (coin coins) k below)
 
   -- gate after gate
-  gates-open : (n k : ℕ) → k + n ≡ length (c .gates) → openGates (d .hash) k (drop k (c .gates)) (drop k tables) (tabulate (c .inputs + k) held) ≡ tabulate (wireCount c) held
+  gates-open : (n k : ℕ) → k + n ≡ length (c .gates) → openGates tweak (d .hash) k (drop k (c .gates)) (drop k tables) (tabulate (c .inputs + k) held) ≡ tabulate (wireCount c) held
   unfolding openGates
   gates-open zero k end =
       let all : k ≡ length (c .gates) = omega arith in
-      ap (λ gs. openGates (d .hash) k gs (drop k tables) (tabulate (c .inputs + k) held)) (drop-all k (c .gates) (omega arith))
+      ap (λ gs. openGates tweak (d .hash) k gs (drop k tables) (tabulate (c .inputs + k) held)) (drop-all k (c .gates) (omega arith))
       ∙ ap (λ m. tabulate (c .inputs + m) held) all
   gates-open (suc n) k end =
       let below : k < length (c .gates) = omega arith in
-      ap (λ gs. openGates (d .hash) k gs (drop k tables) (tabulate (c .inputs + k) held)) (drop-more (c .gates) k noGate below)
-      ∙ ap (λ rows. openGates (d .hash) (k + 1) (drop (k + 1) (c .gates)) (drop 1 (drop k tables))
-      (tabulate (c .inputs + k) held ++ (openGate (d .hash) k (heldAt (tabulate (c .inputs + k) held) (gateAt c k .wires)) rows ∷ [])))
+      ap (λ gs. openGates tweak (d .hash) k gs (drop k tables) (tabulate (c .inputs + k) held)) (drop-more (c .gates) k noGate below)
+      ∙ ap (λ rows. openGates tweak (d .hash) (k + 1) (drop (k + 1) (c .gates)) (drop 1 (drop k tables))
+      (tabulate (c .inputs + k) held ++ (openGate tweak (d .hash) k (heldAt (tabulate (c .inputs + k) held) (gateAt c k .wires)) rows ∷ [])))
       (getD-drop k tables 0 [] ∙ ap (λ j. getD tables j []) (omega arith))
-      ∙ ap₂ (λ (rest : List (List (List ℕ))) (ks : List (List ℕ)). openGates (d .hash) (k + 1) (drop (k + 1) (c .gates)) rest ks)
+      ∙ ap₂ (λ (rest : List (List (List ℕ))) (ks : List (List ℕ)). openGates tweak (d .hash) (k + 1) (drop (k + 1) (c .gates)) rest ks)
       (drop-drop 1 k tables)
-      (ap (λ key. tabulate (c .inputs + k) held ++ (key ∷ [])) (gate-opens k below) ∙ sym (map-counting-more held 0 (c .inputs + k) (c .inputs + k) (omega arith))
+      (ap (λ bytes. tabulate (c .inputs + k) held ++ (bytes ∷ [])) (gate-opens k below) ∙ sym (map-counting-more held 0 (c .inputs + k) (c .inputs + k) (omega arith))
       ∙ ap (λ m. tabulate m held) (omega arith))
       ∙ gates-open n (k + 1) (omega arith)
 
-  outputs-decode : (ws : List ℕ) → All (λ w. w < wireCount c) ws → decode (map (coin coins) ws) (heldAt (tabulate (wireCount c) held) ws) ≡ atAll (values c xs) ws
+  -- meanings after those of the outputs are not read
+  outputs-decode : (ws more : List ℕ) → All (λ w. w < wireCount c) ws → decode (map (coin coins) (ws ++ more)) (heldAt (tabulate (wireCount c) held) ws) ≡ atAll (values c xs) ws
   unfolding zipWith
-  outputs-decode [] all = refl
-  outputs-decode (w ∷ ws) all =
+  outputs-decode [] [] all = refl
+  outputs-decode [] (v ∷ more) all = refl
+  outputs-decode (w ∷ ws) more all =
       ap₂ (λ (b : Bool) (bs : List Bool). b ∷ bs)
-      (ap (λ key. colour (coin coins w) (colourOf key)) (getD-map-counting held 0 (wireCount c) w w [] (all .0) (omega arith))
+      (ap (λ bytes. colour (coin coins w) (colourOf bytes)) (getD-map-counting held 0 (wireCount c) w w [] (all .0) (omega arith))
       ∙ ap (colour (coin coins w)) (shown (active S c xs coins w) (all .0)) ∙ xor-back (coin coins w) (at (values c xs) w))
-      (outputs-decode ws (all .1))
+      (outputs-decode ws more (all .1))
 
   inputs-held : map (λ t. value d t) (sent S c xs coins .keys) ≡ tabulate (c .inputs + 0) held
   unfolding value
@@ -136,12 +139,21 @@ module _ (coin : List Bool → ℕ → Bool) (c : Circuit) (good : WellFormed c)
       (λ w below. ap (λ v. d .secrets (valueKey S c coins w v)) (sym (input-value c good xs fit w below)))
       ∙ ap (λ n. tabulate n held) (omega arith)
 
-  opened : evaluate (d .hash) c (map (λ t. value d t) (sent S c xs coins .keys)) tables (map (coin coins) (c .outputs)) ≡ result c xs
-  opened =
-      ap (λ ks. decode (map (coin coins) (c .outputs)) (heldAt ks (c .outputs))) (ap (openGates (d .hash) 0 (c .gates) tables) inputs-held ∙ gates-open (length (c .gates)) 0 (omega arith))
-      ∙ outputs-decode (c .outputs) (all-from-getD (λ w. w < wireCount c) (c .outputs) 0 (good .5))
+  opened : (more : List ℕ) →
+      evaluateBy tweak (d .hash) c (map (λ t. value d t) (sent S c xs coins .keys)) tables (map (coin coins) (c .outputs ++ more)) ≡ result c xs
+  opened more =
+      ap (λ ks. decode (map (coin coins) (c .outputs ++ more)) (heldAt ks (c .outputs)))
+      (ap (openGates tweak (d .hash) 0 (c .gates) tables) inputs-held ∙ gates-open (length (c .gates)) 0 (omega arith))
+      ∙ outputs-decode (c .outputs) more (all-from-getD (λ w. w < wireCount c) (c .outputs) 0 (good .5))
 
--- whatever coin a wire goes by
-pub right : (coin : List Bool → ℕ → Bool) → Right (yaoBy coin byColour numbered outputsOnly)
+-- whatever coin a wire goes by, whatever closes rows besides their keys, and whatever meanings follow those of the outputs
+pub right : (coin : List Bool → ℕ → Bool) (tweak : Tweak) (more : Circuit → List ℕ) → Right (yaoBy coin byColour tweak (λ c. c .outputs ++ more c))
 unfolding value
-right coin c xs coins fits d shown = opened coin c (fits .well-formed) xs coins (fits .inputs) d shown
+right coin tweak more c xs coins fits d shown = opened coin tweak (λ c. c .outputs ++ more c) c (fits .well-formed) xs coins (fits .inputs) d shown (more c)
+
+pub outputs-right : (coin : List Bool → ℕ → Bool) (tweak : Tweak) → Right (yaoBy coin byColour tweak outputsOnly)
+unfolding value
+outputs-right coin tweak c xs coins fits d shown =
+    ap (λ ws. evaluateBy tweak (d .hash) c (map (λ t. value d t) (sent (yaoBy coin byColour tweak outputsOnly) c xs coins .keys))
+    (map (map (λ t. value d t)) (sent (yaoBy coin byColour tweak outputsOnly) c xs coins .tables)) (map (coin coins) ws)) (sym (append-nil (c .outputs)))
+    ∙ opened coin tweak outputsOnly c (fits .well-formed) xs coins (fits .inputs) d shown []

@@ -13,8 +13,9 @@ use Rattle.circuit.specs.Circuit.{Circuit, WellFormed, wireCount, at, atAll, va
 use Rattle.circuit.specs.Numbers.{binary}
 use Rattle.circuit.proofs.Values.{assigned, two-of}
 use Rattle.scheme.specs.Coins.{_⊕_, colour}
-use Rattle.scheme.specs.Garbling.{Label, label, Row, opened, closed, allHeld, look}
-use Rattle.scheme.specs.Yao.{gateAt, turned, Tweak, heldFor}
+use Rattle.scheme.specs.Garbling.{Key, key, Row, opened, closed, allHeld, look}
+use Rattle.scheme.specs.Opening.{Tweak}
+use Rattle.scheme.specs.Yao.{gateAt, turned, heldFor}
 use Rattle.scheme.proofs.Colours.{xor-same, same-from-xor, xor-back}
 
 -- Of tables the argument asks two things: a row for each choice of colours,
@@ -47,7 +48,7 @@ gate-wires c good k below = let g = good .4 k below in rw (two-of (gateAt c k .w
 pub wires-below : (c : Circuit) → WellFormed c → (k : ℕ) → k < length (c .gates) → All (λ w. w < wireCount c) (gateAt c k .wires)
 wires-below c good k below = all-weaker (λ w. w < c .inputs + k) (λ w. w < wireCount c) (λ w small. omega arith) (gateAt c k .wires) (gate-wires c good k below)
 
-pub keys-below : (n : ℕ) (ws : List ℕ) (cs : List Bool) → All (λ w. w < n) ws → All (λ k. k .wire < n) (zipWith label ws cs)
+pub keys-below : (n : ℕ) (ws : List ℕ) (cs : List Bool) → All (λ w. w < n) ws → All (λ k. k .wire < n) (zipWith key ws cs)
 unfolding zipWith
 keys-below n [] cs all = tt
 keys-below n (w ∷ ws) [] all = tt
@@ -74,24 +75,24 @@ active-row c good xs fit coin k below =
 
 -- one holds keys of the colours `held`
 module _ (held : ℕ → Bool) where
-  pub keys-held : (ws : List ℕ) → zipWith label ws (map held ws) ≡ map (λ w. label w (held w)) ws
+  pub keys-held : (ws : List ℕ) → zipWith key ws (map held ws) ≡ map (λ w. key w (held w)) ws
   unfolding zipWith
   keys-held [] = refl
-  keys-held (w ∷ ws) = ap (λ ks. label w (held w) ∷ ks) (keys-held ws)
+  keys-held (w ∷ ws) = ap (λ ks. key w (held w) ∷ ks) (keys-held ws)
 
-  all-held : (ws : List ℕ) → allHeld held (zipWith label ws (map held ws)) ≡ true
+  all-held : (ws : List ℕ) → allHeld held (zipWith key ws (map held ws)) ≡ true
   unfolding zipWith
   all-held [] = refl
   all-held (w ∷ ws) = rw (xor-same (held w)) (all-held ws)
 
-  pub looks-open : (r : Row) (ws : List ℕ) → r .keys ≡ zipWith label ws (map held ws) → look held r ≡ opened (r .holds)
+  pub looks-open : (r : Row) (ws : List ℕ) → r .keys ≡ zipWith key ws (map held ws) → look held r ≡ opened (r .holds)
   looks-open r ws keys = ap (λ b. cond b (opened (r .holds)) closed) (ap (allHeld held) keys ∙ all-held ws)
 
-  pub colours-held : (ws : List ℕ) (cs : List Bool) → length cs ≡ length ws → allHeld held (zipWith label ws cs) ≡ true → cs ≡ map held ws
+  pub colours-held : (ws : List ℕ) (cs : List Bool) → length cs ≡ length ws → allHeld held (zipWith key ws cs) ≡ true → cs ≡ map held ws
   unfolding zipWith
   colours-held [] [] len all = refl
   colours-held [] (b ∷ cs) len all = absurd (omega arith)
   colours-held (w ∷ ws) [] len all = absurd (omega arith)
   colours-held (w ∷ ws) (b ∷ cs) len all =
-      let both = and-parts (not (b ⊕ held w)) (allHeld held (zipWith label ws cs)) all in
+      let both = and-parts (not (b ⊕ held w)) (allHeld held (zipWith key ws cs)) all in
       ap₂ (λ (x : Bool) (xs : List Bool). x ∷ xs) (same-from-xor b (held w) (not-true (b ⊕ held w) (both .0))) (colours-held ws cs (omega arith) (both .1))

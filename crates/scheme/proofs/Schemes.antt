@@ -3,8 +3,9 @@ use mathlib.Core.Bool.{Bool}
 use mathlib.Core.List.{List}
 use Prim.Native.Nat.{ℕ}
 use Rattle.circuit.specs.Circuit.{Circuit}
+use Rattle.scheme.specs.Opening.{Tweak}
 use Rattle.scheme.specs.Promises.{OneKeyOf, OneKey, SeenByDerivation}
-use Rattle.scheme.specs.Yao.{gateAt, Tweak, Order, yaoBy, numbered}
+use Rattle.scheme.specs.Yao.{gateAt, Order, yaoBy, numbered}
 use Rattle.scheme.proofs.Layouts.{by-number}
 use Rattle.scheme.proofs.Rows.{Complete, Naming}
 use Rattle.scheme.proofs.Runs.{one-key, sees}

@@ -1,6 +1,7 @@
 -- The simulator makes what is not told apart from what is sent, and whatever can be simulated hides inputs. Assumes nothing.
 use mathlib.Core.Bool.{Bool, true, false, cond, _&&_, not}
 use mathlib.Core.List.{List, [], _∷_, map, zipWith}
+use mathlib.Core.Logic.{_↔_}
 use mathlib.Core.Path.{_≡_, refl, sym, ap, ap₂, subst, _∙_}
 use Prim.Native.Nat.{ℕ, _+_, _<_}
 use native.Mathlib.Omega.{arith}
@@ -11,14 +12,14 @@ use Rattle.std.proofs.shelf.Elements.{all-from-getD}
 use Rattle.std.proofs.shelf.Lists.{ext-getD}
 use Rattle.circuit.specs.Circuit.{Circuit, WellFormed, wireCount, at, atAll, values, result}
 use Rattle.scheme.specs.Coins.{_⊕_, colour, coloursOf}
-use Rattle.scheme.specs.Garbling.{Label, label, Row, Scheme, blocks, Got, opened, closed, allHeld, look, valueKey, active, sent, view, got}
+use Rattle.scheme.specs.Garbling.{Key, key, Row, Scheme, blocks, Got, opened, closed, allHeld, look, valueKey, active, sent, view, got}
 use Rattle.scheme.specs.Promises.{Alike, OneToOne, Fits, Simulatable, HidesInputs}
 use Rattle.scheme.specs.Simulation.{fakeTables, simulate}
-use Rattle.scheme.specs.Terms.{Term, block, StaticallyEquivalent}
+use Rattle.scheme.specs.Terms.{block, Term, secret, _≈_, run, StaticallyEquivalent, sum}
 use Rattle.scheme.specs.Yao.{gateAt, rowOf, heldFor, byColour, numbered, outputsOnly, yao}
 use Rattle.scheme.proofs.Colours.{xor-twice}
 use Rattle.scheme.proofs.Layouts.{by-colour, by-number}
-use Rattle.scheme.proofs.Reach.{held-alike}
+use Rattle.scheme.proofs.Reach.{Lawful, held-alike, sums-alike}
 use Rattle.scheme.proofs.Rows.{input-value, wires-below, keys-below, colours-held}
 use Rattle.scheme.proofs.Runs.{on, lawful, key-is, sent-is}
 use Rattle.scheme.proofs.Tables.{tables-beside, map-map-beside, equal-tables, equal-tabulate}
@@ -56,7 +57,7 @@ module _ (c : Circuit) (xs coins : List Bool) (fits : Fits yao c xs coins) where
       ap₂ (λ (b : Bool) (bs : List Bool). b ∷ bs)
       (sym (ap (λ b. b ⊕ at (values c xs) w) (sym (acts w (all .0))) ∙ xor-twice (at coins w) (at (values c xs) w))) (meanings-made ws (all .1))
 
-  held-agree : (ks : List Label) → All (λ k. k .wire < wireCount c) ks → allHeld (λ w. active yao c xs coins w .colour) ks ≡ allHeld (at colours) ks
+  held-agree : (ks : List Key) → All (λ k. k .wire < wireCount c) ks → allHeld (λ w. active yao c xs coins w .colour) ks ≡ allHeld (at colours) ks
   held-agree [] all = refl
   held-agree (k ∷ ks) all = ap₂ _&&_ (ap (λ b. not (k .colour ⊕ b)) (acts (k .wire) (all .0))) (held-agree ks (all .1))
 
@@ -64,16 +65,16 @@ module _ (c : Circuit) (xs coins : List Bool) (fits : Fits yao c xs coins) where
   look-agrees : (k : ℕ) → k < length (c .gates) → (cs : List Bool) → length cs ≡ length (gateAt c k .wires) →
       look (λ w. active yao c xs coins w .colour) (rowOf numbered c k cs (heldFor c (at coins) k cs)) ≡ look (at colours) (rowOf numbered c k cs (at colours (c .inputs + k)))
   look-agrees k below cs len =
-      ap (λ b. cond b (opened (label (c .inputs + k) (heldFor c (at coins) k cs))) closed)
+      ap (λ b. cond b (opened (key (c .inputs + k) (heldFor c (at coins) k cs))) closed)
       (held-agree keys (keys-below (wireCount c) (gateAt c k .wires) cs (wires-below c (fits .well-formed) k below))) ∙ go (allHeld (at colours) keys) refl
     where
-      keys : List Label
-      keys = zipWith label (gateAt c k .wires) cs
+      keys : List Key
+      keys = zipWith key (gateAt c k .wires) cs
 
       go : (b : Bool) → allHeld (at colours) keys ≡ b →
-          cond b (opened (label (c .inputs + k) (heldFor c (at coins) k cs))) closed ≡ cond b (opened (label (c .inputs + k) (at colours (c .inputs + k)))) closed
+          cond b (opened (key (c .inputs + k) (heldFor c (at coins) k cs))) closed ≡ cond b (opened (key (c .inputs + k) (at colours (c .inputs + k)))) closed
       go true all =
-          ap (λ b. opened (label (c .inputs + k) b))
+          ap (λ b. opened (key (c .inputs + k) b))
           (ap (heldFor c (at coins) k) (colours-held (at colours) (gateAt c k .wires) cs len all)
           ∙ lawful at byColour numbered outputsOnly c xs coins fits (by-colour c (at coins)) (by-number c) (at colours) acts k below)
       go false some = refl
@@ -82,19 +83,24 @@ module _ (c : Circuit) (xs coins : List Bool) (fits : Fits yao c xs coins) where
   simulated-alike =
       let set = on at byColour numbered outputsOnly c xs coins fits (by-colour c (at coins)) (by-number c) in
       let same = meanings-made (c .outputs) (all-from-getD (λ w. w < wireCount c) (c .outputs) 0 (fits .well-formed .5)) in
-      let key = key-is at byColour numbered outputsOnly c xs coins fits (by-colour c (at coins)) (by-number c) (at colours) acts in
-      let keys = equal-tabulate (λ w. valueKey yao c coins w (at xs w)) (λ w. label w (at colours w)) (c .inputs) key in
+      let same-key = key-is at byColour numbered outputsOnly c xs coins fits (by-colour c (at coins)) (by-number c) (at colours) acts in
+      let keys = equal-tabulate (λ w. valueKey yao c coins w (at xs w)) (λ w. key w (at colours w)) (c .inputs) same-key in
       let rows =
       equal-tables (map-map-beside (λ s t. s ≡ t) (look (λ w. active yao c xs coins w .colour)) (look (at colours))
       (tables-beside numbered c places (λ r q. look (λ w. active yao c xs coins w .colour) r ≡ look (at colours) q) (heldFor c (at coins)) (λ k cs. at colours (c .inputs + k))
       (λ k below p. look-agrees k below (places k p) (set .complete .sized k below p)))) in
+      let is = sent-is at byColour numbered outputsOnly c xs coins fits (by-colour c (at coins)) (by-number c) (at colours) acts in
+      let made = blocks (simulate c colours (result c xs) .transcript) in
+      let real = lawful at byColour numbered outputsOnly c xs coins fits (by-colour c (at coins)) (by-number c) (at colours) acts in
+      let fake : Lawful numbered places c set (at colours) (λ k cs. at colours (c .inputs + k)) = λ k below. refl in
       record {
         view = λ i. record { keys = keys i; rows = rows i; meanings = same i };
-        transcripts =
-            subst (λ l. StaticallyEquivalent l (blocks (simulate c colours (result c xs) .transcript)))
-            (sym (sent-is at byColour numbered outputsOnly c xs coins fits (by-colour c (at coins)) (by-number c) (at colours) acts))
-            (held-alike numbered places c set (at colours) (heldFor c (at coins)) (λ k cs. at colours (c .inputs + k))
-            (lawful at byColour numbered outputsOnly c xs coins fits (by-colour c (at coins)) (by-number c) (at colours) acts) (λ k below. refl));
+        transcripts = subst (λ l. StaticallyEquivalent l made) (sym is) (held-alike numbered places c set (at colours) (heldFor c (at coins)) (λ k cs. at colours (c .inputs + k)) real fake);
+        keys = λ m ks n.
+            subst (λ l. run l m ≈ sum (map secret ks) n ↔ run made m ≈ sum (map secret ks) n) (sym is) (
+              sums-alike numbered places c set (at colours) (heldFor c (at coins)) (λ k cs. at colours (c .inputs + k)) real fake m ks n,
+              sums-alike numbered places c set (at colours) (λ k cs. at colours (c .inputs + k)) (heldFor c (at coins)) fake real m ks n,
+            );
         meanings = same;
       }
 
@@ -121,20 +127,24 @@ simulatable c good =
 
 -- not to be told apart goes both ways, and from one to the next
 equivalent-back : {A : Type 0} {a e : List (Term A block)} → StaticallyEquivalent a e → StaticallyEquivalent e a
-equivalent-back q = record { size = sym (q .size); tests = λ m n. (q .tests m n .1, q .tests m n .0); secrets = λ m k. (q .secrets m k .1, q .secrets m k .0) }
+equivalent-back q = record { size = sym (q .size); tests = λ m n. (q .tests m n .1, q .tests m n .0) }
 
 equivalent-on : {A : Type 0} {a e i : List (Term A block)} → StaticallyEquivalent a e → StaticallyEquivalent e i → StaticallyEquivalent a i
 equivalent-on p q =
     record {
       size = p .size ∙ q .size;
       tests = λ m n. (λ h. q .tests m n .0 (p .tests m n .0 h), λ h. p .tests m n .1 (q .tests m n .1 h));
-      secrets = λ m k. (λ h. q .secrets m k .0 (p .secrets m k .0 h), λ h. p .secrets m k .1 (q .secrets m k .1 h));
     }
 
 -- two that are like one are alike
 pub alike-both : {A : Type 0} {g h i : Got A} → Alike g i → Alike h i → Alike g h
 alike-both p q =
-    record { view = p .view ∙ sym (q .view); transcripts = equivalent-on (p .transcripts) (equivalent-back (q .transcripts)); meanings = p .meanings ∙ sym (q .meanings) }
+    record {
+      view = p .view ∙ sym (q .view);
+      transcripts = equivalent-on (p .transcripts) (equivalent-back (q .transcripts));
+      keys = λ m ks n. (λ h. q .keys m ks n .1 (p .keys m ks n .0 h), λ h. p .keys m ks n .1 (q .keys m ks n .0 h));
+      meanings = p .meanings ∙ sym (q .meanings);
+    }
 
 pub hides-if-simulatable : {A : Type 0} (S : Scheme A) → Simulatable S → HidesInputs S
 hides-if-simulatable S sim c xs ys good xs-fit ys-fit one-result =
@@ -159,5 +169,5 @@ hides-if-simulatable S sim c xs ys good xs-fit ys-fit one-result =
           (subst (λ g. Alike (got S c ys others) g) (ap₂ (s .simulated) back (sym one-result))
           (s .alike ys others (record { well-formed = good; inputs = ys-fit; drawn = theirs .back-fits bits (mine .there-fits coins len) })));
       own = λ coins len w below same.
-          s .own ys xs (s .random xs coins) ys-fit xs-fit (mine .there-fits coins len) w below (sym same) ∙ ap (λ l. at l w) (mine .back-there coins len);
+          s .own ys xs (s .random xs coins) ys-fit xs-fit (mine .there-fits coins len) w below (sym same) ∙ ap (λ l. S .coin c l w) (mine .back-there coins len);
     }

@@ -12,7 +12,8 @@ use Rattle.std.specs.Iters.{counting}
 use Rattle.std.proofs.shelf.Counted.{getD-map-counting}
 use Rattle.circuit.specs.Circuit.{Circuit}
 use Rattle.scheme.specs.Garbling.{Row, tabulate}
-use Rattle.scheme.specs.Yao.{gateAt, Tweak, rowOf, tablesHolding}
+use Rattle.scheme.specs.Opening.{Tweak}
+use Rattle.scheme.specs.Yao.{gateAt, rowOf, tablesHolding}
 
 entry : {X Y : Type 0} (f : X → Y) (h : ℕ → X) (n i : ℕ) (d : Y) → i < n → getD (map f (tabulate n h)) i d ≡ f (h i)
 entry f h n i d below = ap (λ ys. getD ys i d) (map-map f h (counting 0 n)) ∙ getD-map-counting (λ i. f (h i)) 0 n i i d below (omega arith)

@@ -1,36 +1,26 @@
--- The worked examples, and the whole statement. Assumes nothing.
+-- The worked examples. Assumes nothing.
 use mathlib.Core.Bool.{Bool, true, false, cond, _&&_, not}
-use mathlib.Core.List.{List, [], _∷_, _++_, zipWith}
+use mathlib.Core.List.{List, [], _∷_, zipWith}
 use mathlib.Core.Path.{_≡_, refl, ap, _∙_}
-use Prim.Native.Nat.{ℕ, _+_, _*_, _^_, _<_}
+use Prim.Native.Nat.{ℕ, _^_, _<_}
 use native.Mathlib.Omega.{arith}
-use lib.ListN.{length, replicate}
+use lib.ListN.{length}
 use Rattle.std.specs.shelf.Lists.{All}
 use Rattle.circuit.specs.Circuit.{Circuit, at, atAll, extended, values, result}
-use Rattle.circuit.specs.Numbers.{bit, bits, digits}
+use Rattle.circuit.specs.Numbers.{bits, digits}
 use Rattle.scheme.specs.Coins.{_⊕_, colour}
 use Rattle.scheme.specs.Examples.{Works, examples, WorkedExamples}
-use Rattle.scheme.specs.Garbling.{Label, label, Row, Seen, opened, closed, seenAt, allHeld, look, active, view}
-use Rattle.scheme.specs.Opening.{Drawn, colourOf, value}
-use Rattle.scheme.specs.Promises.{Secure, Coloured}
-use Rattle.scheme.specs.Statement.{Statement}
-use Rattle.scheme.specs.Yao.{gateAt, rowOf, heldFor, byColour, numbered, outputsOnly, yao}
-use Rattle.scheme.proofs.Blocks.{sound}
-use Rattle.scheme.proofs.Derived.{deduction}
-use Rattle.scheme.proofs.Layouts.{by-colour}
-use Rattle.scheme.proofs.Marked.{out-of-reach, not-told-apart}
-use Rattle.scheme.proofs.Missed.{near-misses}
-use Rattle.scheme.proofs.Opens.{right}
-use Rattle.scheme.proofs.Simulated.{simulatable, hides-if-simulatable}
-use Rattle.scheme.proofs.Schemes.{one-key-numbered, seen-by-derivation}
+use Rattle.scheme.specs.Garbling.{key, Row, Seen, opened, closed, seenAt, allHeld, look, active, view}
+use Rattle.scheme.specs.Yao.{gateAt, rowOf, heldFor, byColour, numbered, yao}
 use Rattle.scheme.proofs.Tables.{row-entry}
 
 examples-work : All Works examples
 unfolding extended zipWith digits
-examples-work = ((refl, refl), ((refl, refl), ((refl, refl), ((refl, refl), ((refl, refl), ((refl, refl), ((refl, refl), tt)))))))
+examples-work =
+    ((refl, refl, refl, refl), ((refl, refl, refl, refl), ((refl, refl, refl, refl), ((refl, refl, refl, refl), ((refl, refl, refl, refl), ((refl, refl, refl, refl), ((refl, refl, refl, refl), tt)))))))
 
 -- keys of both colours of one wire are not active together
-never-both : (c : Circuit) (xs coins : List Bool) (w : ℕ) (b : Bool) → allHeld (λ v. active yao c xs coins v .colour) (label w b ∷ label w (not b) ∷ []) ≡ false
+never-both : (c : Circuit) (xs coins : List Bool) (w : ℕ) (b : Bool) → allHeld (λ v. active yao c xs coins v .colour) (key w b ∷ key w (not b) ∷ []) ≡ false
 never-both c xs coins w b = go b (colour (at coins w) (at (values c xs) w))
   where
     go : (b own : Bool) → (not (b ⊕ own) && (not (not b ⊕ own) && true)) ≡ false
@@ -51,9 +41,9 @@ module _ (c : Circuit) (k w : ℕ) (below : k < length (c .gates)) (same : gateA
       let four : 2 ^ length (gateAt c k .wires) ≡ 4 = ap (λ ws. 2 ^ length ws) same in
       row-entry numbered c (λ k. byColour (at coins) (gateAt c k)) (look held) (heldFor c (at coins)) k p s below (omega arith)
 
-  shut : (p : ℕ) (b : Bool) → zipWith label (w ∷ w ∷ []) (bits 2 p) ≡ label w b ∷ label w (not b) ∷ [] → look held (row p) ≡ closed
+  shut : (p : ℕ) (b : Bool) → zipWith key (w ∷ w ∷ []) (bits 2 p) ≡ key w b ∷ key w (not b) ∷ [] → look held (row p) ≡ closed
   shut p b keys =
-      ap (λ ks. cond (allHeld held ks) (opened (row p .holds)) closed) (ap (λ ws. zipWith label ws (bits (length ws) p)) same ∙ keys)
+      ap (λ ks. cond (allHeld held ks) (opened (row p .holds)) closed) (ap (λ ws. zipWith key ws (bits (length ws) p)) same ∙ keys)
       ∙ ap (λ t. cond t (opened (row p .holds)) closed) (never-both c xs coins w b)
 
   never-open : (seenAt (view yao c xs coins) k 0b01 s ≡ closed) × (seenAt (view yao c xs coins) k 0b10 s ≡ closed)
@@ -64,53 +54,12 @@ no-gate : (c : Circuit) → c .gates ≡ [] → (xs : List Bool) → result c xs
 unfolding extended
 no-gate c none xs = ap (λ gs. atAll (extended gs xs) (c .outputs)) none
 
-paired : WorkedExamples
+pub worked : WorkedExamples
 unfolding extended digits
-paired =
+worked =
     record {
       work = examples-work;
       paired = refl;
       no-gate = no-gate;
       never-open = λ c k w below same xs coins s. never-open c k w below same xs coins s;
-    }
-
--- keys that are their own names, and a hash of no bits
-named-keys : Drawn Label
-named-keys =
-    record {
-      hash = λ ks ns. replicate 16 0;
-      hash-size = λ ks ns. refl;
-      secrets = λ k. replicate 15 (k .wire) ++ (bit (k .colour) ∷ []);
-      secrets-size = λ k. refl;
-    }
-
-named-coloured : (c : Circuit) (coins : List Bool) → Coloured yao c coins named-keys
-unfolding value named-keys
-named-coloured c coins k below = go (k .colour)
-  where
-    go : (b : Bool) → colourOf (replicate 15 (k .wire) ++ (bit b ∷ [])) ≡ b
-    go true = refl
-    go false = refl
-
-secure : Secure yao
-secure =
-    record {
-      right = right at;
-      one-key = one-key-numbered at byColour outputsOnly by-colour;
-      seen = seen-by-derivation at byColour outputsOnly by-colour;
-      simulated = simulatable;
-      hides = hides-if-simulatable yao simulatable;
-    }
-
-pub statement : Statement
-statement =
-    record {
-      secure = secure;
-      near-misses = near-misses;
-      sound = sound;
-      deduction = deduction;
-      drawable = (named-keys, named-coloured);
-      out-of-reach = out-of-reach;
-      not-told-apart = not-told-apart;
-      worked = paired;
     }

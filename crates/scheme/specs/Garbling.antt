@@ -5,22 +5,23 @@ use Prim.Native.Nat.{ℕ}
 use lib.ListN.{getD}
 use Rattle.std.specs.Iters.{counting}
 use Rattle.circuit.specs.Circuit.{Circuit, at, values}
+use Rattle.scheme.specs.Bytes.{Evaluation}
 use Rattle.scheme.specs.Coins.{_⊕_, colour}
 use Rattle.scheme.specs.Terms.{block, text, Term, xor, pad, tweak, _then_}
 
--- a key (wire label), by its wire and its colour
-pub record Label : Type 0 where
+-- a key (wire key), by its wire and its colour
+pub record Key : Type 0 where
   pub wire : ℕ
   pub colour : Bool
 
-abbrev pub label : ℕ → Bool → Label
-label w c = record { wire = w; colour = c }
+abbrev pub key : ℕ → Bool → Key
+key w c = record { wire = w; colour = c }
 
 -- a row of a garbled table: the keys that open it, the numbers behind them in the text of its pad, and the key in it
 pub record Row : Type 0 where
-  pub keys : List Label
+  pub keys : List Key
   pub tweak : List ℕ
-  pub holds : Label
+  pub holds : Key
 
 -- what a scheme says of a circuit and the coins (permute bits) that are drawn for it
 pub record Scheme (A : Type 0) : Type 0 where
@@ -29,11 +30,13 @@ pub record Scheme (A : Type 0) : Type 0 where
   -- the coin of a wire
   pub coin : Circuit → List Bool → ℕ → Bool
   -- the block that a key is
-  pub key : Circuit → List Bool → Label → Term A block
+  pub keyBlock : Circuit → List Bool → Key → Term A block
   -- for each gate its rows, in the order in which they are sent
   pub tables : Circuit → List Bool → List (List Row)
   -- the wires whose coins are sent, in the plain
   pub decoded : Circuit → List ℕ
+  -- how it is opened
+  pub evaluate : Evaluation
 
 -- all that an opener gets
 pub record Transcript (A : Type 0) : Type 0 where
@@ -55,22 +58,23 @@ tabulate n f = map f (counting 0 n)
 
 -- what an opener sees of a row: the key in it, or nothing but that it is there
 pub data Seen : Type 0 where
-  opened : Label → Seen
+  opened : Key → Seen
   closed : Seen
 
 -- and of a transcript: the keys of the inputs, the rows in their places, the meanings
 pub record View : Type 0 where
-  pub keys : List Label
+  pub keys : List Key
   pub rows : List (List Seen)
   pub meanings : List Bool
 
--- what an opener gets, and what it sees of it
+-- what an opener gets, what it sees of it, and the blocks that keys are there
 pub record Got (A : Type 0) : Type 0 where
   pub transcript : Transcript A
   pub view : View
+  pub keyBlock : Key → Term A block
 
 -- keys of which one holds those of some colours, one for each wire
-abbrev pub allHeld : (held : ℕ → Bool) → List Label → Bool
+abbrev pub allHeld : (held : ℕ → Bool) → List Key → Bool
 allHeld held [] = true
 allHeld held (k ∷ ks) = not (k .colour ⊕ held (k .wire)) && allHeld held ks
 
@@ -84,12 +88,12 @@ seenAt v k p s = getD (getD (v .rows) k []) p s
 
 module _ {A : Type 0} (S : Scheme A) (c : Circuit) where
   -- the key of a wire's value
-  abbrev pub valueKey : List Bool → ℕ → Bool → Label
-  valueKey coins w v = label w (colour (S .coin c coins w) v)
+  abbrev pub valueKey : List Bool → ℕ → Bool → Key
+  valueKey coins w v = key w (colour (S .coin c coins w) v)
 
   -- a row as it is sent: the key in it, closed with the pad over its keys and its tweak
   abbrev pub cipher : List Bool → Row → Term A block
-  cipher coins r = xor (S .key c coins (r .holds)) (pad (textOf (map (S .key c coins) (r .keys)) (r .tweak)))
+  cipher coins r = xor (S .keyBlock c coins (r .holds)) (pad (textOf (map (S .keyBlock c coins) (r .keys)) (r .tweak)))
 
   abbrev pub meanings : List Bool → List Bool
   meanings coins = map (S .coin c coins) (S .decoded c)
@@ -98,14 +102,14 @@ module _ {A : Type 0} (S : Scheme A) (c : Circuit) where
   abbrev pub sent : List Bool → List Bool → Transcript A
   sent xs coins =
       record {
-        keys = tabulate (c .inputs) (λ w. S .key c coins (valueKey coins w (at xs w)));
+        keys = tabulate (c .inputs) (λ w. S .keyBlock c coins (valueKey coins w (at xs w)));
         tables = map (map (cipher coins)) (S .tables c coins);
         meanings = meanings coins;
       }
 
   module _ (xs coins : List Bool) where
     -- the key that an opener comes to hold of a wire
-    abbrev pub active : ℕ → Label
+    abbrev pub active : ℕ → Key
     active w = valueKey coins w (at (values c xs) w)
 
     abbrev pub view : View
@@ -117,4 +121,4 @@ module _ {A : Type 0} (S : Scheme A) (c : Circuit) where
         }
 
     abbrev pub got : Got A
-    got = record { transcript = sent xs coins; view = view }
+    got = record { transcript = sent xs coins; view = view; keyBlock = S .keyBlock c coins }

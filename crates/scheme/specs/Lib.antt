@@ -1,9 +1,10 @@
 pub mod Coins
 pub mod Terms
 pub mod Marking
+pub mod Bytes
 pub mod Garbling
-pub mod Yao
 pub mod Opening
+pub mod Yao
 pub mod Promises
 pub mod Simulation
 pub mod NearMisses

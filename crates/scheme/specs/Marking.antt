@@ -6,7 +6,7 @@ use mathlib.Core.Path.{_≡_}
 use Prim.Native.Nat.{ℕ}
 use Rattle.std.specs.shelf.Lists.{All}
 use Rattle.scheme.specs.Coins.{_⊕_}
-use Rattle.scheme.specs.Terms.{Sort, block, text, Term, secret, public, xor, pad, tweak, _then_, _≈_, Derives, StaticallyEquivalent}
+use Rattle.scheme.specs.Terms.{Sort, block, text, Term, secret, public, xor, pad, tweak, _then_, _≈_, Recipe, run, Derives, StaticallyEquivalent}
 
 -- the secrets that are out of reach, and the tweaks of rows that hold one
 pub record Marking (A : Type 0) : Type 0 where
@@ -33,20 +33,29 @@ abbrev pub OutOfReach : Type 0 → Type 0
 OutOfReach A =
     (m : Marking A) (have : List (Term A block)) → All (λ t. marked m t ≡ false) have → (s : Sort) (t : Term A s) → Derives have t → marked m t ≡ false
 
--- The exchange: where a text is marked, another block stands for its pad.
-unfoldable pub exchanged : {A : Type 0} {s : Sort} → Marking A → (List ℕ → Term A block) → Term A s → Term A s
-exchanged m f (secret k) = secret k
+-- The exchange: something else stands for a secret, and for a pad whose text is marked.
+pub record Exchange (A : Type 0) : Type 0 where
+  pub secrets : A → Term A block
+  pub pads : List ℕ → Term A block
+
+unfoldable pub exchanged : {A : Type 0} {s : Sort} → Marking A → Exchange A → Term A s → Term A s
+exchanged m f (secret k) = f .secrets k
 exchanged m f (public n) = public n
 exchanged m f (xor t u) = xor (exchanged m f t) (exchanged m f u)
-exchanged m f (pad t) = cond (marked m t) (f (tweakOf t)) (pad (exchanged m f t))
+exchanged m f (pad t) = cond (marked m t) (f .pads (tweakOf t)) (pad (exchanged m f t))
 exchanged m f (tweak ns) = tweak ns
 exchanged m f (k then t) = exchanged m f k then exchanged m f t
 
 -- one list is made of unmarked terms, and becomes the other by an exchange
-abbrev pub Simulates : {A : Type 0} → Marking A → (List ℕ → Term A block) → List (Term A block) → List (Term A block) → Type 0
-Simulates m f a e = Forall₂ (λ t u. (marked m t ≡ false) × (exchanged m f t ≈ u)) a e
+abbrev pub Becomes : {A : Type 0} → Marking A → Exchange A → List (Term A block) → List (Term A block) → Type 0
+Becomes m f a e = Forall₂ (λ t u. (marked m t ≡ false) × (exchanged m f t ≈ u)) a e
 
--- nobody tells apart two lists of which each becomes the other
+-- then so does whatever a recipe gives
+abbrev pub Carried : Type 0 → Type 0
+Carried A =
+    (m : Marking A) (f : Exchange A) (a e : List (Term A block)) → Becomes m f a e → (r : Recipe block) (t u : Term A block) → exchanged m f t ≈ u → run a r ≈ t → run e r ≈ u
+
+-- and nobody tells apart two lists of which each becomes the other
 abbrev pub NotToldApart : Type 0 → Type 0
 NotToldApart A =
-    (m n : Marking A) (f g : List ℕ → Term A block) (a e : List (Term A block)) → Simulates m f a e → Simulates n g e a → StaticallyEquivalent a e
+    (m n : Marking A) (f g : Exchange A) (a e : List (Term A block)) → Becomes m f a e → Becomes n g e a → StaticallyEquivalent a e

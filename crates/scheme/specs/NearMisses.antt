@@ -1,41 +1,45 @@
 -- Schemes that come near: each decides one thing otherwise, and breaks a promise. Assumes nothing.
 use mathlib.Core.Bool.{Bool, true, false}
-use mathlib.Core.List.{List, [], _∷_}
+use mathlib.Core.List.{List, [], _∷_, _++_}
 use mathlib.Core.Path.{_≡_}
 use Prim.Native.Nat.{ℕ, _+_, _<_, _≤_}
 use lib.ListN.{length}
 use Rattle.std.specs.Iters.{counting}
-use Rattle.circuit.specs.Circuit.{Circuit, wireCount, at, atAll, values}
+use Rattle.circuit.specs.Circuit.{Circuit, at, atAll, values}
 use Rattle.circuit.specs.Numbers.{binary, bits}
 use Rattle.scheme.specs.Coins.{colour}
-use Rattle.scheme.specs.Garbling.{Label, label, Scheme, blocks, Seen, opened, seenAt, meanings, sent, active, view}
+use Rattle.scheme.specs.Garbling.{Key, key, Scheme, blocks, Seen, opened, seenAt, meanings, sent, active, view}
+use Rattle.scheme.specs.Opening.{Tweak}
 use Rattle.scheme.specs.Promises.{Fits, Right, OneKeyOf, OneKey, SeenByDerivation, HidesInputs}
 use Rattle.scheme.specs.Terms.{block, secret, xor, pad, tweak, _then_, _≈_, Recipe, run}
-use Rattle.scheme.specs.Yao.{gateAt, Order, Tweak, turned, byColour, numbered, yaoBy, outputsOnly}
+use Rattle.scheme.specs.Yao.{gateAt, Order, turned, byColour, numbered, yaoBy, outputsOnly}
 
 -- without coins: a key's colour is its value
-abbrev pub withoutCoins : Scheme Label
+abbrev pub withoutCoins : Scheme Key
 withoutCoins = yaoBy (λ coins w. false) byColour numbered outputsOnly
 
 -- rows in the order of values: a place's own bits are the values of the keys that open its row
 abbrev pub byValue : Order
 byValue coin g p = turned coin (g .wires) (bits (length (g .wires)) p)
 
-abbrev pub rowsByValue : Scheme Label
+abbrev pub rowsByValue : Scheme Key
 rowsByValue = yaoBy at byValue numbered outputsOnly
 
 -- rows closed without the gate's number
 abbrev pub unnumbered : Tweak
 unnumbered k cs = binary cs ∷ []
 
-abbrev pub withoutNumbers : Scheme Label
+abbrev pub withoutNumbers : Scheme Key
 withoutNumbers = yaoBy at byColour unnumbered outputsOnly
 
--- meanings of all wires
-abbrev pub withAllMeanings : Scheme Label
-withAllMeanings = yaoBy at byColour numbered (λ c. counting 0 (wireCount c))
+-- meanings of inner wires: after those of the outputs, all that gates make
+abbrev pub withInner : Circuit → List ℕ
+withInner c = c .outputs ++ counting (c .inputs) (length (c .gates))
 
--- the smallest circuit with two gates: both take its one input twice, and the one gives what it is, the other 0
+abbrev pub withInnerMeanings : Scheme Key
+withInnerMeanings = yaoBy at byColour numbered withInner
+
+-- the smallest circuit with two gates: both take its one input twice, and the first gives what it is, the second 0, which is the output
 abbrev pub twoGates : Circuit
 twoGates =
     record {
@@ -44,7 +48,7 @@ twoGates =
       gates =
           record { wires = 0 ∷ 0 ∷ []; gives = false ∷ false ∷ false ∷ true ∷ [] }
           ∷ record { wires = 0 ∷ 0 ∷ []; gives = false ∷ false ∷ false ∷ false ∷ [] } ∷ [];
-      outputs = 1 ∷ [];
+      outputs = 2 ∷ [];
     }
 
 -- What an opener does with it where gates have no numbers. It has the input's key (0), the rows of the first gate (1 to 4) and of the second (5 to 8). The key
@@ -58,19 +62,20 @@ pub record NearMisses : Type 0 where
   pub without-coins : HidesInputs withoutCoins → ⊥
   pub rows-by-value : HidesInputs rowsByValue → ⊥
   pub without-numbers : OneKey withoutNumbers → ⊥
-  pub with-all-meanings : HidesInputs withAllMeanings → ⊥
+  pub with-inner-meanings : HidesInputs withInnerMeanings → ⊥
   -- Why: without coins the colour of the key that is held of a wire is the wire's value;
   pub colour-tells : (c : Circuit) (xs coins : List Bool) (w : ℕ) → active withoutCoins c xs coins w .colour ≡ at (values c xs) w
   -- by value the row that opens stands at the place that the values of the gate's wires write;
   pub place-tells : (c : Circuit) (xs coins : List Bool) → Fits rowsByValue c xs coins → (k : ℕ) → k < length (c .gates) → (s : Seen) →
       seenAt (view rowsByValue c xs coins) k (binary (atAll (values c xs) (gateAt c k .wires))) s ≡ opened (active rowsByValue c xs coins (c .inputs + k))
-  -- without numbers the key of 0 of the first gate's wire comes out, whose value is 1 (fewer gates than two are safe);
-  pub overlay-tells : run (blocks (sent withoutNumbers twoGates (true ∷ []) (false ∷ false ∷ false ∷ []))) overlaid ≈ secret (label 1 false)
+  -- without numbers the key of 0 of the first gate's wire comes out, whose value is 1 (of each wire one key comes out where there are fewer gates than two);
+  pub overlay-tells : run (blocks (sent withoutNumbers twoGates (true ∷ []) (false ∷ false ∷ false ∷ []))) overlaid ≈ secret (key 1 false)
   pub one-gate : (c : Circuit) → length (c .gates) ≤ 1 → OneKeyOf withoutNumbers c
-  -- with all meanings each key that is held is read as its value.
-  pub meanings-tell : (c : Circuit) (xs coins : List Bool) (w : ℕ) → w < wireCount c →
-      colour (at (meanings withAllMeanings c coins) w) (active withAllMeanings c xs coins w .colour) ≡ at (values c xs) w
-  -- And what else holds of them: neither results nor keys tell them from the scheme that is meant.
-  pub without-coins-else : Right withoutCoins × OneKey withoutCoins × SeenByDerivation withoutCoins
-  pub rows-by-value-else : OneKey rowsByValue × SeenByDerivation rowsByValue
-  pub with-all-meanings-else : OneKey withAllMeanings × SeenByDerivation withAllMeanings
+  -- with inner meanings the key that is held of a gate's wire is read as its value.
+  pub meanings-tell : (c : Circuit) (xs coins : List Bool) (k : ℕ) → k < length (c .gates) →
+      colour (at (meanings withInnerMeanings c coins) (length (c .outputs) + k)) (active withInnerMeanings c xs coins (c .inputs + k) .colour) ≡ at (values c xs) (c .inputs + k)
+  -- And what holds of them all the same: results do not tell a scheme without coins, without numbers or with inner meanings from the one that is meant,
+  pub right-too : Right withoutCoins × Right withoutNumbers × Right withInnerMeanings
+  -- nor do keys one without coins, by value or with inner meanings.
+  pub one-key-too : OneKey withoutCoins × OneKey rowsByValue × OneKey withInnerMeanings
+  pub seen-too : SeenByDerivation withoutCoins × SeenByDerivation rowsByValue × SeenByDerivation withInnerMeanings

@@ -8,18 +8,22 @@ use Prim.Native.Nat.{ℕ, _<_}
 use lib.ListN.{length}
 use Rattle.std.specs.shelf.Lists.{All}
 use Rattle.circuit.specs.Circuit.{Circuit, WellFormed, wireCount, at, result}
-use Rattle.scheme.specs.Garbling.{Label, Row, Scheme, blocks, Seen, opened, closed, View, Got, sent, active, view, got}
-use Rattle.scheme.specs.Opening.{Drawn, value, colourOf, evaluate}
-use Rattle.scheme.specs.Terms.{Sort, Term, _≈_, Derives, StaticallyEquivalent}
+use Rattle.scheme.specs.Bytes.{Drawn, value, colourOf}
+use Rattle.scheme.specs.Garbling.{Key, Row, Scheme, blocks, Seen, opened, closed, View, Got, sent, active, view, got}
+use Rattle.scheme.specs.Terms.{Sort, block, Term, _≈_, Recipe, run, Derives, StaticallyEquivalent, sum}
 
 -- equal terms are equal bytes, whatever is drawn and whatever the hash
 abbrev pub Sound : Type 0 → Type 0
 Sound A = (d : Drawn A) (s : Sort) (t u : Term A s) → t ≈ u → value d t ≡ value d u
 
--- two that nobody tells apart: the same is seen, every test on blocks comes out the same, and the meanings are the same
+-- two that nobody tells apart
 pub record Alike {A : Type 0} (g h : Got A) : Type 0 where
   pub view : g .view ≡ h .view
+  -- every test on blocks comes out the same
   pub transcripts : StaticallyEquivalent (blocks (g .transcript)) (blocks (h .transcript))
+  -- and the same keys come out, one or several added up, with any number: so do their colours
+  pub keys : (m : Recipe block) (ks : List Key) (n : ℕ) →
+      run (blocks (g .transcript)) m ≈ sum (map (g .keyBlock) ks) n ↔ run (blocks (h .transcript)) m ≈ sum (map (h .keyBlock) ks) n
   pub meanings : g .transcript .meanings ≡ h .transcript .meanings
 
 -- lists of n bits paired one to one, with none left out
@@ -38,22 +42,22 @@ module _ {A : Type 0} (S : Scheme A) where
 
   -- the last bit of each wire's keys is their colour
   abbrev pub Coloured : Circuit → List Bool → Drawn A → Type 0
-  Coloured c coins d = (k : Label) → k .wire < wireCount c → colourOf (value d (S .key c coins k)) ≡ k .colour
+  Coloured c coins d = (k : Key) → k .wire < wireCount c → colourOf (value d (S .keyBlock c coins k)) ≡ k .colour
 
-  -- 1. Right: for all coins, keys and hashes the opening of what is sent gives the circuit's result.
+  -- 1. Right: for all coins, keys and hashes the opening of what is sent gives the circuit's result; and there are such keys.
   abbrev pub Right : Type 0
   Right =
       (c : Circuit) (xs coins : List Bool) → Fits c xs coins → (d : Drawn A) → Coloured c coins d →
-      evaluate (d .hash) c (map (λ t. value d t) (sent S c xs coins .keys)) (map (map (λ t. value d t)) (sent S c xs coins .tables)) (sent S c xs coins .meanings)
+      S .evaluate (d .hash) c (map (λ t. value d t) (sent S c xs coins .keys)) (map (map (λ t. value d t)) (sent S c xs coins .tables)) (sent S c xs coins .meanings)
       ≡ result c xs
 
   -- a key can be derived from what is sent
-  abbrev pub Known : Circuit → List Bool → List Bool → Label → Type 0
-  Known c xs coins k = Derives (blocks (sent S c xs coins)) (S .key c coins k)
+  abbrev pub Known : Circuit → List Bool → List Bool → Key → Type 0
+  Known c xs coins k = Derives (blocks (sent S c xs coins)) (S .keyBlock c coins k)
 
   abbrev pub OneKeyOf : Circuit → Type 0
   OneKeyOf c =
-      (xs coins : List Bool) → Fits c xs coins → (k : Label) → Known c xs coins k ↔ ((k .wire < wireCount c) × (k .colour ≡ active S c xs coins (k .wire) .colour))
+      (xs coins : List Bool) → Fits c xs coins → (k : Key) → Known c xs coins k ↔ ((k .wire < wireCount c) × (k .colour ≡ active S c xs coins (k .wire) .colour))
 
   -- 2. One key: the keys that can be derived are, of each wire of the circuit, that of its value, and no other.
   abbrev pub OneKey : Type 0
@@ -65,28 +69,28 @@ module _ {A : Type 0} (S : Scheme A) where
     as-closed : (All (Known c xs coins) (r .keys) → ⊥) → SeenAs c xs coins r closed
 
   -- a key stands in a view: it is an input's, or is in an open row
-  abbrev pub Shows : View → Label → Type 0
+  abbrev pub Shows : View → Key → Type 0
   Shows v k = List·Memᴰ k (v .keys) ⊎ List·Memᴰ (opened k) (flatten (v .rows))
 
   -- 3. Seen by derivation: of each row what can be derived decides what is seen of it, and the keys seen are those that can be derived.
   pub record Sees (c : Circuit) (xs coins : List Bool) : Type 0 where
     pub rows : Forall₂ (Forall₂ (SeenAs c xs coins)) (S .tables c coins) (view S c xs coins .rows)
-    pub keys : (k : Label) → Shows (view S c xs coins) k ↔ Known c xs coins k
+    pub keys : (k : Key) → Shows (view S c xs coins) k ↔ Known c xs coins k
 
   abbrev pub SeenByDerivation : Type 0
   SeenByDerivation = (c : Circuit) (xs coins : List Bool) → Fits c xs coins → Sees c xs coins
 
   -- 4. Simulated: whoever knows the circuit and the result makes, from bits drawn at random, what is not told apart from what an opener gets.
   pub record Simulator (c : Circuit) : Type 0 where
-    pub simulated : (random result : List Bool) → Got A
-    -- for each input the random bits and the coins are paired one to one, with none left out
+    pub simulated : (bits result : List Bool) → Got A
+    -- for each input those bits and the coins are paired one to one, with none left out
     pub random : (xs coins : List Bool) → List Bool
-    pub coins : (xs random : List Bool) → List Bool
+    pub coins : (xs bits : List Bool) → List Bool
     pub one-to-one : (xs : List Bool) → length xs ≡ c .inputs → OneToOne (S .coins c) (random xs) (coins xs)
-    pub alike : (xs cs : List Bool) → Fits c xs cs → Alike (got S c xs cs) (simulated (random xs cs) (result c xs))
-    -- the coin of an input follows from its own value and the random bits
+    pub alike : (xs coins : List Bool) → Fits c xs coins → Alike (got S c xs coins) (simulated (random xs coins) (result c xs))
+    -- the coin of an input follows from its value and the bits
     pub own : (xs ys bits : List Bool) → length xs ≡ c .inputs → length ys ≡ c .inputs → length bits ≡ S .coins c → (w : ℕ) → w < c .inputs → at xs w ≡ at ys w →
-        at (coins xs bits) w ≡ at (coins ys bits) w
+        S .coin c (coins xs bits) w ≡ S .coin c (coins ys bits) w
 
   abbrev pub Simulatable : Type 0
   Simulatable = (c : Circuit) → WellFormed c → Simulator c
@@ -98,14 +102,19 @@ module _ {A : Type 0} (S : Scheme A) where
     pub one-to-one : OneToOne (S .coins c) there back
     pub alike : (coins : List Bool) → length coins ≡ S .coins c → Alike (got S c xs coins) (got S c ys (there coins))
     -- an input that is the same keeps its coin: so do all of the opener's own, whose values it knows
-    pub own : (coins : List Bool) → length coins ≡ S .coins c → (w : ℕ) → w < c .inputs → at xs w ≡ at ys w → at (there coins) w ≡ at coins w
+    pub own : (coins : List Bool) → length coins ≡ S .coins c → (w : ℕ) → w < c .inputs → at xs w ≡ at ys w →
+        S .coin c (there coins) w ≡ S .coin c coins w
 
   abbrev pub HidesInputs : Type 0
   HidesInputs =
       (c : Circuit) (xs ys : List Bool) → WellFormed c → length xs ≡ c .inputs → length ys ≡ c .inputs → result c xs ≡ result c ys → Matched c xs ys
 
-  pub record Secure : Type 0 where
+  abbrev pub Drawable : Type 0
+  Drawable = (c : Circuit) (coins : List Bool) → (d : Drawn A) × Coloured c coins d
+
+  pub record KeepsPromises : Type 0 where
     pub right : Right
+    pub drawable : Drawable
     pub one-key : OneKey
     pub seen : SeenByDerivation
     pub simulated : Simulatable

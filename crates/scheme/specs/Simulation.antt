@@ -5,26 +5,27 @@ use mathlib.Core.List.{List, map, zipWith}
 use Prim.Native.Nat.{ℕ, _+_}
 use Rattle.circuit.specs.Circuit.{Circuit, at, atAll}
 use Rattle.scheme.specs.Coins.{_⊕_}
-use Rattle.scheme.specs.Garbling.{Label, label, Row, Got, tabulate, look, cipher}
+use Rattle.scheme.specs.Garbling.{Key, key, Row, Got, tabulate, look, cipher}
 use Rattle.scheme.specs.Terms.{secret}
 use Rattle.scheme.specs.Yao.{gateAt, tablesHolding, byColour, numbered, yao}
 
 abbrev pub fakeTables : Circuit → List Bool → List (List Row)
 fakeTables c colours = tablesHolding numbered c (λ k. byColour (at colours) (gateAt c k)) (λ k cs. at colours (c .inputs + k))
 
-abbrev pub simulate : Circuit → (colours result : List Bool) → Got Label
+abbrev pub simulate : Circuit → (colours result : List Bool) → Got Key
 simulate c colours result =
     record {
       transcript =
           record {
-            keys = tabulate (c .inputs) (λ w. secret (label w (at colours w)));
+            keys = tabulate (c .inputs) (λ w. secret (key w (at colours w)));
             tables = map (map (cipher yao c colours)) (fakeTables c colours);
             meanings = zipWith _⊕_ (atAll colours (c .outputs)) result;
           };
       view =
           record {
-            keys = tabulate (c .inputs) (λ w. label w (at colours w));
+            keys = tabulate (c .inputs) (λ w. key w (at colours w));
             rows = map (map (look (at colours))) (fakeTables c colours);
             meanings = zipWith _⊕_ (atAll colours (c .outputs)) result;
           };
+      keyBlock = λ k. secret k;
     }

@@ -1,26 +1,23 @@
 -- The statement of what can be known. Assumes nothing.
-use mathlib.Core.Bool.{Bool}
 use mathlib.Core.List.{List}
-use Rattle.circuit.specs.Circuit.{Circuit}
 use Rattle.scheme.specs.Examples.{WorkedExamples}
-use Rattle.scheme.specs.Garbling.{Label}
-use Rattle.scheme.specs.Marking.{OutOfReach, NotToldApart}
+use Rattle.scheme.specs.Garbling.{Key}
+use Rattle.scheme.specs.Marking.{OutOfReach, Carried, NotToldApart}
 use Rattle.scheme.specs.NearMisses.{NearMisses}
-use Rattle.scheme.specs.Opening.{Drawn}
-use Rattle.scheme.specs.Promises.{Sound, Coloured, Secure}
+use Rattle.scheme.specs.Promises.{Sound, KeepsPromises}
 use Rattle.scheme.specs.Terms.{block, Term, Deduction}
 use Rattle.scheme.specs.Yao.{yao}
 
 pub record Statement : Type 0 where
-  -- the four promises hold of the scheme
-  pub secure : Secure yao
-  -- and some break for each that comes near
+  -- the scheme keeps all promises
+  pub promises : KeepsPromises yao
+  -- and each that comes near breaks one
   pub near-misses : NearMisses
-  -- the terms are faithful: equal ones are equal bytes, nothing that can be done is left out, and there are keys with their colours
-  pub sound : Sound Label
-  pub deduction : (have : List (Term Label block)) → Deduction have
-  pub drawable : (d : Drawn Label) × ((c : Circuit) (coins : List Bool) → Coloured yao c coins d)
-  -- the argument, for any scheme over these terms
-  pub out-of-reach : OutOfReach Label
-  pub not-told-apart : NotToldApart Label
+  -- equal terms are equal bytes, and derivation has its rules
+  pub sound : Sound Key
+  pub deduction : (have : List (Term Key block)) → Deduction have
+  -- the argument: it is proved for any secrets, and stands here for keys
+  pub out-of-reach : OutOfReach Key
+  pub carried : Carried Key
+  pub not-told-apart : NotToldApart Key
   pub worked : WorkedExamples

@@ -1,9 +1,9 @@
 -- Bytes as terms: what is drawn, what everyone knows, exclusive or and hash; when two terms are the same bytes; all that can be derived from some of
 -- them; and when nobody tells two lists of them apart. Assumes nothing.
-use mathlib.Core.List.{List, List·Memᴰ}
+use mathlib.Core.List.{List, [], _∷_, List·Memᴰ}
 use mathlib.Core.Logic.{_↔_}
 use mathlib.Core.Path.{_≡_}
-use Prim.Native.Nat.{ℕ}
+use Prim.Native.Nat.{ℕ, _%_, _^_}
 use lib.Bits.{bitXor}
 use lib.ListN.{length, getD}
 
@@ -23,7 +23,7 @@ pub data Term (A : Type 0) : Sort → Type 0 where
   tweak : List ℕ → Term A text
   _then_ : Term A block → Term A text → Term A text
 
--- the same bytes, whatever is drawn and whatever the hash: the laws of exclusive or, and nothing about the hash
+-- the same bytes by the laws of exclusive or, whatever is drawn; nothing is known of the hash but that it is a function
 pub data Equal (A : Type 0) : (s : Sort) → Term A s → Term A s → Type 0 where
   same : {s : Sort} {t : Term A s} → Equal A s t t
   flip : {s : Sort} {t u : Term A s} → Equal A s t u → Equal A s u t
@@ -33,6 +33,7 @@ pub data Equal (A : Type 0) : (s : Sort) → Term A s → Term A s → Type 0 wh
   unit : (t : Term A block) → Equal A block (xor t (public 0)) t
   twice : (t : Term A block) → Equal A block (xor t t) (public 0)
   numbers : (m n : ℕ) → Equal A block (xor (public m) (public n)) (public (bitXor m n))
+  wraps : (n : ℕ) → Equal A block (public n) (public (n % 2 ^ 128))
   in-xor : {t t′ u u′ : Term A block} → Equal A block t t′ → Equal A block u u′ → Equal A block (xor t u) (xor t′ u′)
   in-pad : {t t′ : Term A text} → Equal A text t t′ → Equal A block (pad t) (pad t′)
   in-text : {k k′ : Term A block} {t t′ : Term A text} → Equal A block k k′ → Equal A text t t′ → Equal A text (k then t) (k′ then t′)
@@ -61,7 +62,7 @@ run have m = substitute (λ i. getD have i (public 0)) m
 abbrev pub Derives : {A : Type 0} {s : Sort} → List (Term A block) → Term A s → Type 0
 Derives {s = s} have t = (m : Recipe s) × (run have m ≈ t)
 
--- which is closed under everything that can be done
+-- its rules
 pub record Deduction {A : Type 0} (have : List (Term A block)) : Type 0 where
   pub has : (t : Term A block) → List·Memᴰ t have → Derives have t
   pub knows : (n : ℕ) → Derives have (public n)
@@ -71,10 +72,12 @@ pub record Deduction {A : Type 0} (have : List (Term A block)) : Type 0 where
   pub hashes : (t : Term A text) → Derives have t → Derives have (pad t)
   pub alike : (s : Sort) (t u : Term A s) → t ≈ u → Derives have t → Derives have u
 
--- two lists that nobody tells apart
+-- two lists that nobody tells apart: two recipes give the same from the one just if they do from the other
 pub record StaticallyEquivalent {A : Type 0} (a e : List (Term A block)) : Type 0 where
   pub size : length a ≡ length e
-  -- two recipes give the same from the one just if they do from the other
   pub tests : (m n : Recipe block) → run a m ≈ run a n ↔ run e m ≈ run e n
-  -- a secret comes out of the one just if it comes out of the other: what it shows, as a key its colour, is the same
-  pub secrets : (m : Recipe block) (k : A) → run a m ≈ secret k ↔ run e m ≈ secret k
+
+-- some blocks and a number added up
+abbrev pub sum : {A : Type 0} → List (Term A block) → ℕ → Term A block
+sum [] n = public n
+sum (t ∷ ts) n = xor t (sum ts n)

@@ -8,7 +8,8 @@ use Rattle.circuit.specs.Circuit.{Circuit, wireCount, noGate, at}
 use Rattle.circuit.specs.Numbers.{binary, bits}
 use Rattle.circuit.specs.declared.gates.Gate.{Gate}
 use Rattle.scheme.specs.Coins.{colour}
-use Rattle.scheme.specs.Garbling.{Label, label, Row, Scheme, tabulate}
+use Rattle.scheme.specs.Garbling.{Key, key, Row, Scheme, tabulate}
+use Rattle.scheme.specs.Opening.{Tweak, evaluateBy}
 use Rattle.scheme.specs.Terms.{secret}
 
 abbrev pub gateAt : Circuit → ℕ → Gate
@@ -18,13 +19,9 @@ gateAt c k = getD (c .gates) k noGate
 abbrev pub turned : (coin : ℕ → Bool) → List ℕ → List Bool → List Bool
 turned coin ws bs = zipWith (λ w b. colour (coin w) b) ws bs
 
--- the numbers that close a row of gate k besides its keys, whose colours are given
-abbrev pub Tweak : Type 0
-Tweak = (k : ℕ) → List Bool → List ℕ
-
 -- a row of gate k: the keys that open it have some colours, and in it is the key of the gate's own wire with another
 abbrev pub rowOf : Tweak → Circuit → ℕ → List Bool → Bool → Row
-rowOf tweak c k cs b = record { keys = zipWith label (gateAt c k .wires) cs; tweak = tweak k cs; holds = label (c .inputs + k) b }
+rowOf tweak c k cs b = record { keys = zipWith key (gateAt c k .wires) cs; tweak = tweak k cs; holds = key (c .inputs + k) b }
 
 -- for each gate a row for each choice of colours, by what stands at each place and by what is held for it
 abbrev pub tablesHolding : Tweak → Circuit → (order : ℕ → ℕ → List Bool) → (held : ℕ → List Bool → Bool) → List (List Row)
@@ -43,21 +40,22 @@ abbrev pub tablesBy : Order → Tweak → Circuit → (coin : ℕ → Bool) → 
 tablesBy order tweak c coin = tablesHolding tweak c (λ k. order coin (gateAt c k)) (heldFor c coin)
 
 -- the scheme by four decisions: the coin that a wire goes by, the order of rows, what closes them besides their keys, and the wires whose meanings are sent
-abbrev pub yaoBy : (coin : List Bool → ℕ → Bool) → Order → Tweak → (decoded : Circuit → List ℕ) → Scheme Label
+abbrev pub yaoBy : (coin : List Bool → ℕ → Bool) → Order → Tweak → (decoded : Circuit → List ℕ) → Scheme Key
 yaoBy coin order tweak decoded =
     record {
       coins = wireCount;
       coin = λ c coins. coin coins;
-      key = λ c coins k. secret k;
+      keyBlock = λ c coins k. secret k;
       tables = λ c coins. tablesBy order tweak c (coin coins);
       decoded = decoded;
+      evaluate = evaluateBy tweak;
     }
 
 -- rows stand in the order of their keys' colours: those are the bits of the place
 abbrev pub byColour : Order
 byColour coin g p = bits (length (g .wires)) p
 
--- a row is closed with its gate's number and its place
+-- a row is closed with its gate's number and the number that its keys' colours write, which is its place
 abbrev pub numbered : Tweak
 numbered k cs = k ∷ binary cs ∷ []
 
@@ -66,5 +64,5 @@ abbrev pub outputsOnly : Circuit → List ℕ
 outputsOnly c = c .outputs
 
 -- each wire goes by a coin of its own
-abbrev pub yao : Scheme Label
+abbrev pub yao : Scheme Key
 yao = yaoBy at byColour numbered outputsOnly

@@ -1,5 +1,5 @@
 use Rattle.scheme.proofs.pairing.statement.Needs as need
-use Rattle.scheme.proofs.Worked.{statement}
+use Rattle.scheme.proofs.Stated.{statement}
 
 pub returns : need.returns
 returns c = statement
