@@ -12,7 +12,7 @@ use Rattle.scheme.specs.Bytes.{xorBytes, Drawn, Value, value}
 use Rattle.scheme.specs.Promises.{Sound}
 use Rattle.scheme.specs.Terms.{Sort, block, text, Term, secret, public, xor, pad, tweak, _then_, same, flip, chain, regroup, swap, unit, twice, numbers, wraps, in-xor, in-pad, in-text, _≈_}
 
-bytes-comm : (a b : List ℕ) → xorBytes a b ≡ xorBytes b a
+pub bytes-comm : (a b : List ℕ) → xorBytes a b ≡ xorBytes b a
 unfolding zipWith
 bytes-comm [] [] = refl
 bytes-comm [] (y ∷ b) = refl
@@ -26,7 +26,7 @@ bytes-assoc (x ∷ a) [] c = refl
 bytes-assoc (x ∷ a) (y ∷ b) [] = refl
 bytes-assoc (x ∷ a) (y ∷ b) (z ∷ c) = ap₂ (λ (n : ℕ) (l : List ℕ). n ∷ l) (xor-assoc x y z) (bytes-assoc a b c)
 
-bytes-zero : (n : ℕ) (a : List ℕ) → length a ≡ n → xorBytes a (replicate n 0) ≡ a
+pub bytes-zero : (n : ℕ) (a : List ℕ) → length a ≡ n → xorBytes a (replicate n 0) ≡ a
 unfolding zipWith
 bytes-zero n [] e = refl
 bytes-zero zero (x ∷ a) e = absurd (omega arith)
@@ -61,7 +61,7 @@ bytes-digits (suc n) x y =
     bytes-push (digits 256 n (x / 256)) (digits 256 n (y / 256)) (x % 256) (y % 256) (length-digits 256 n (x / 256) ∙ sym (length-digits 256 n (y / 256)))
     ∙ ap₂ (λ (l : List ℕ) (d : ℕ). l ++ (d ∷ [])) (bytes-digits n (x / 256) (y / 256) ∙ ap (digits 256 n) (sym (xor-shr x y 8))) (sym (xor-mod x y 8))
 
-digits-wrap : (n x : ℕ) → digits 256 n (x % 2 ^ (8 * n)) ≡ digits 256 n x
+pub digits-wrap : (n x : ℕ) → digits 256 n (x % 2 ^ (8 * n)) ≡ digits 256 n x
 unfolding digits
 digits-wrap zero x = refl
 digits-wrap (suc n) x =

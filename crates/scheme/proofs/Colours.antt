@@ -25,6 +25,11 @@ pub xor-false : (x : Bool) → x ⊕ false ≡ x
 xor-false true = refl
 xor-false false = refl
 
+pub xor-past : (a b c : Bool) → a ⊕ (b ⊕ c) ≡ b ⊕ (a ⊕ c)
+xor-past false b c = refl
+xor-past true false c = refl
+xor-past true true c = refl
+
 pub xor-back : (c v : Bool) → c ⊕ (c ⊕ v) ≡ v
 xor-back true true = refl
 xor-back true false = refl

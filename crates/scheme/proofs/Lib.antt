@@ -2,6 +2,7 @@ mod Colours
 pub mod Marked
 pub mod Derived
 pub mod Blocks
+mod Laws
 mod Tables
 mod Rows
 mod Layouts

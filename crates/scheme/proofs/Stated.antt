@@ -1,17 +1,22 @@
 -- The statement, put together. Assumes nothing.
-use mathlib.Core.Bool.{Bool, true, false}
+use mathlib.Core.Bool.{Bool, true, false, _&&_, not}
 use mathlib.Core.List.{List, [], _∷_, _++_}
-use mathlib.Core.Path.{_≡_, refl}
+use mathlib.Core.Path.{_≡_, refl, ap, ap₂}
+use lib.Dec.{eqb}
 use lib.ListN.{replicate}
+use Rattle.std.proofs.shelf.Tests.{and-parts, and-from, not-true, eqb-true, eq-eqb}
 use Rattle.circuit.specs.Circuit.{Circuit, at}
 use Rattle.circuit.specs.Numbers.{bit}
 use Rattle.scheme.specs.Bytes.{Drawn, value, colourOf}
-use Rattle.scheme.specs.Garbling.{Key}
+use Rattle.scheme.specs.Coins.{_⊕_}
+use Rattle.scheme.specs.Garbling.{Key, key}
 use Rattle.scheme.specs.Promises.{Coloured, KeepsPromises}
 use Rattle.scheme.specs.Statement.{Statement}
 use Rattle.scheme.specs.Yao.{byColour, numbered, outputsOnly, yao}
 use Rattle.scheme.proofs.Blocks.{sound}
+use Rattle.scheme.proofs.Colours.{xor-same, same-from-xor}
 use Rattle.scheme.proofs.Derived.{deduction}
+use Rattle.scheme.proofs.Laws.{all-laws}
 use Rattle.scheme.proofs.Layouts.{by-colour}
 use Rattle.scheme.proofs.Marked.{out-of-reach, carried, not-told-apart}
 use Rattle.scheme.proofs.Missed.{near-misses}
@@ -49,12 +54,27 @@ promises =
       hides = hides-if-simulatable yao simulatable;
     }
 
+-- keys can be told from each other
+same-keys : Key → Key → Bool
+same-keys k j = eqb (k .wire) (j .wire) && not (k .colour ⊕ j .colour)
+
+same-from-test : (k j : Key) → same-keys k j ≡ true → k ≡ j
+unfolding same-keys
+same-from-test k j is =
+    let both = and-parts (eqb (k .wire) (j .wire)) (not (k .colour ⊕ j .colour)) is in
+    ap₂ key (eqb-true (k .wire) (j .wire) (both .0)) (same-from-xor (k .colour) (j .colour) (not-true (k .colour ⊕ j .colour) (both .1)))
+
+self-test : (k : Key) → same-keys k k ≡ true
+unfolding same-keys
+self-test k = and-from (eqb (k .wire) (k .wire)) (not (k .colour ⊕ k .colour)) (eq-eqb (k .wire) (k .wire) refl) (ap not (xor-same (k .colour)))
+
 pub statement : Statement
 statement =
     record {
       promises = promises;
       near-misses = near-misses;
       sound = sound;
+      all-laws = all-laws same-keys same-from-test self-test;
       deduction = deduction;
       out-of-reach = out-of-reach;
       carried = carried;

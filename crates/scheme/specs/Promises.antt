@@ -10,11 +10,23 @@ use Rattle.std.specs.shelf.Lists.{All}
 use Rattle.circuit.specs.Circuit.{Circuit, WellFormed, wireCount, at, result}
 use Rattle.scheme.specs.Bytes.{Drawn, value, colourOf}
 use Rattle.scheme.specs.Garbling.{Key, Row, Scheme, blocks, Seen, opened, closed, View, Got, sent, active, view, got}
-use Rattle.scheme.specs.Terms.{Sort, block, Term, _≈_, Recipe, run, Derives, StaticallyEquivalent, sum}
+use Rattle.scheme.specs.Terms.{Sort, block, Term, secret, public, xor, pad, tweak, _then_, _≈_, Recipe, run, Derives, StaticallyEquivalent, sum}
 
 -- equal terms are equal bytes, whatever is drawn and whatever the hash
 abbrev pub Sound : Type 0 → Type 0
 Sound A = (d : Drawn A) (s : Sort) (t u : Term A s) → t ≈ u → value d t ≡ value d u
+
+-- and no law is left out: terms without pads that are equal bytes, whatever is drawn, are equal terms
+abbrev pub Plain : {A : Type 0} {s : Sort} → Term A s → Type 0
+Plain (secret k) = Unit {0}
+Plain (public n) = Unit {0}
+Plain (xor t u) = Plain t × Plain u
+Plain (pad t) = ⊥
+Plain (tweak ns) = ⊥
+Plain (k then t) = ⊥
+
+abbrev pub AllLaws : Type 0 → Type 0
+AllLaws A = (t u : Term A block) → Plain t → Plain u → ((d : Drawn A) → value d t ≡ value d u) → t ≈ u
 
 -- two that nobody tells apart
 pub record Alike {A : Type 0} (g h : Got A) : Type 0 where

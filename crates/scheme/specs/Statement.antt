@@ -4,7 +4,7 @@ use Rattle.scheme.specs.Examples.{WorkedExamples}
 use Rattle.scheme.specs.Garbling.{Key}
 use Rattle.scheme.specs.Marking.{OutOfReach, Carried, NotToldApart}
 use Rattle.scheme.specs.NearMisses.{NearMisses}
-use Rattle.scheme.specs.Promises.{Sound, KeepsPromises}
+use Rattle.scheme.specs.Promises.{Sound, AllLaws, KeepsPromises}
 use Rattle.scheme.specs.Terms.{block, Term, Deduction}
 use Rattle.scheme.specs.Yao.{yao}
 
@@ -13,8 +13,9 @@ pub record Statement : Type 0 where
   pub promises : KeepsPromises yao
   -- and each that comes near breaks one
   pub near-misses : NearMisses
-  -- equal terms are equal bytes, and derivation has its rules
+  -- equal terms are equal bytes, with all laws of exclusive or, and derivation has its rules
   pub sound : Sound Key
+  pub all-laws : AllLaws Key
   pub deduction : (have : List (Term Key block)) → Deduction have
   -- the argument: it is proved for any secrets, and stands here for keys
   pub out-of-reach : OutOfReach Key
