@@ -11,8 +11,9 @@ use Rattle.std.proofs.shelf.Lists.{length-map}
 use Rattle.std.proofs.shelf.Tests.{eq-eqb}
 use Rattle.circuit.specs.Circuit.{Circuit, WellFormed, wireCount, at, values, result}
 use Rattle.circuit.specs.Meaning.{valuesFor}
-use Rattle.scheme.specs.Coins.{pairedCoins, firstDifference, Differs}
+use Rattle.scheme.specs.Coins.{pairedCoins}
 use Rattle.scheme.specs.Outcome.{paired, differ, byDifference, pairing, SameResult}
+use Rattle.scheme.specs.Results.{firstDifference, Differs}
 use Rattle.scheme.proofs.Differences.{no-difference, difference}
 use Rattle.scheme.proofs.Hidden.{paired-alike}
 use Rattle.scheme.proofs.Pairs.{pairs, kept-outputs}

@@ -10,7 +10,8 @@ use Rattle.std.specs.declared.option.Option.the-variants.{Some, None}
 use Rattle.std.proofs.shelf.Lists.{drop-more, drop-all}
 use Rattle.std.proofs.shelf.Tests.{true≢false}
 use Rattle.circuit.specs.Circuit.{at, atAll}
-use Rattle.scheme.specs.Coins.{_⊕_, firstDifference, Differs}
+use Rattle.scheme.specs.Coins.{_⊕_}
+use Rattle.scheme.specs.Results.{firstDifference, Differs}
 use Rattle.scheme.proofs.Colours.{xor-same, same-from-xor}
 
 module _ (before after : List Bool) (outputs : List ℕ) (i : ℕ) {whole : Option ℕ}

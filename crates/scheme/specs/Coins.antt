@@ -1,12 +1,10 @@
--- A coin (permute bit) for each wire, colours (point-and-permute bits), and how the coins of two inputs with one result are paired. Assumes nothing.
+-- A coin (permute bit) for each wire, colours (point-and-permute bits), and how the coins of two inputs are paired. Assumes nothing.
 use mathlib.Core.Path.{_≡_}
-use mathlib.Core.Bool.{Bool, true, false, not, cond}
-use mathlib.Core.List.{List, [], _∷_, map}
-use Prim.Native.Nat.{ℕ, _+_, _<_}
+use mathlib.Core.Bool.{Bool, true, false, not}
+use mathlib.Core.List.{List, map}
+use Prim.Native.Nat.{ℕ, _<_}
 use lib.ListN.{length}
 use Rattle.std.specs.Iters.{counting}
-use Rattle.std.specs.declared.option.Option.{Option}
-use Rattle.std.specs.declared.option.Option.the-variants.{Some, None}
 use Rattle.circuit.specs.Circuit.{Circuit, wireCount, at, values}
 
 -- exclusive or
@@ -45,15 +43,3 @@ pub record Paired (c : Circuit) (xs ys coins paired : List Bool) : Type 0 where
   pub kept : (w : ℕ) → w < wireCount c → at (values c xs) w ≡ at (values c ys) w → at paired w ≡ at coins w
   -- and so does an input that is the same
   pub inputs : (w : ℕ) → w < c .inputs → at xs w ≡ at ys w → at paired w ≡ at coins w
-
--- the place of the first difference, counted from k
-unfoldable pub firstDifference : ℕ → List Bool → List Bool → Option ℕ
-firstDifference k [] ys = None
-firstDifference k (x ∷ xs) [] = None
-firstDifference k (x ∷ xs) (y ∷ ys) = cond (x ⊕ y) (Some k) (firstDifference (k + 1) xs ys)
-
--- k is the first place at which two results differ
-pub record Differs (r s : List Bool) (k : ℕ) : Type 0 where
-  pub within : k < length r
-  pub here : at r k ≡ at s k → ⊥
-  pub before : (j : ℕ) → j < k → at r j ≡ at s j

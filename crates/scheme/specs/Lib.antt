@@ -1,4 +1,5 @@
 pub mod Coins
+pub mod Results
 pub mod Terms
 pub mod Marking
 pub mod Bytes

@@ -17,9 +17,10 @@ use Rattle.circuit.specs.Refusals.{Answer, require, Answers}
 use Rattle.circuit.specs.declared.refusals.Failure.{Failure}
 use Rattle.circuit.specs.declared.refusals.Refusal.the-variants.{Malformed, Values}
 use Rattle.circuit.specs.declared.sheets.Sheet.{Sheet}
-use Rattle.scheme.specs.Coins.{pairedCoins, firstDifference, Paired, Differs}
+use Rattle.scheme.specs.Coins.{pairedCoins, Paired}
 use Rattle.scheme.specs.Garbling.{got}
 use Rattle.scheme.specs.Promises.{Alike}
+use Rattle.scheme.specs.Results.{firstDifference, Differs}
 use Rattle.scheme.specs.Yao.{yao}
 use Rattle.scheme.specs.declared.pairing.Pairing.{Pairing}
 use Rattle.scheme.specs.declared.pairing.Pairing.the-variants.{Coins, Differ}

@@ -1,5 +1,5 @@
 -- Bytes as terms: what is drawn, what everyone knows, exclusive or and hash; when two terms are the same bytes; all that can be derived from some of
--- them; and when nobody tells two lists of them apart. Assumes nothing.
+-- them; and when nobody tells two lists of them apart. Here the hash is a function of which nothing else is known, and nothing is guessed. Assumes nothing.
 use mathlib.Core.List.{List, [], _∷_, List·Memᴰ}
 use mathlib.Core.Logic.{_↔_}
 use mathlib.Core.Path.{_≡_}

@@ -1,7 +1,7 @@
 use mathlib.Core.Path.{_≡_}
 use lib.ListN.{drop}
 use Rattle.circuit.specs.Circuit.{atAll}
-use Rattle.scheme.specs.Coins.{firstDifference}
+use Rattle.scheme.specs.Results.{firstDifference}
 use Rattle.scheme.proofs.pairing.first_difference.Given as given
 
 abbrev pub Inv-loop-i : given.InvT-loop-i

@@ -4,7 +4,8 @@ use Rattle.std.specs.Of.Vec.{vec-items}
 use Rattle.circuit.specs.Meaning.{circuitOf}
 use Rattle.circuit.specs.Circuit.{wireCount, atAll, values, result}
 use Rattle.circuit.proofs.Lawful.{well-formed}
-use Rattle.scheme.specs.Coins.{firstDifference, pairedBy}
+use Rattle.scheme.specs.Coins.{pairedBy}
+use Rattle.scheme.specs.Results.{firstDifference}
 use Rattle.scheme.proofs.Answered.{values-are, differ-answer, paired-answer}
 use Rattle.scheme.proofs.pairing.pair_fitting.Needs as need
 use Rattle.scheme.proofs.pairing.pair_fitting.Needs.{After-first-difference}
