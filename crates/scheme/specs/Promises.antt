@@ -56,7 +56,10 @@ module _ {A : Type 0} (S : Scheme A) where
   abbrev pub Coloured : Circuit → List Bool → Drawn A → Type 0
   Coloured c coins d = (k : Key) → k .wire < wireCount c → colourOf (value d (S .keyBlock c coins k)) ≡ k .colour
 
-  -- 1. Right: for all coins, keys and hashes the opening of what is sent gives the circuit's result; and there are such keys.
+  abbrev pub Drawable : Type 0
+  Drawable = (c : Circuit) (coins : List Bool) → (d : Drawn A) × Coloured c coins d
+
+  -- 1. Right: for all coins, keys and hashes the opening of what is sent gives the circuit's result.
   abbrev pub Right : Type 0
   Right =
       (c : Circuit) (xs coins : List Bool) → Fits c xs coins → (d : Drawn A) → Coloured c coins d →
@@ -121,11 +124,9 @@ module _ {A : Type 0} (S : Scheme A) where
   HidesInputs =
       (c : Circuit) (xs ys : List Bool) → WellFormed c → length xs ≡ c .inputs → length ys ≡ c .inputs → result c xs ≡ result c ys → Matched c xs ys
 
-  abbrev pub Drawable : Type 0
-  Drawable = (c : Circuit) (coins : List Bool) → (d : Drawn A) × Coloured c coins d
-
   pub record KeepsPromises : Type 0 where
     pub right : Right
+    -- of keys that there are
     pub drawable : Drawable
     pub one-key : OneKey
     pub seen : SeenByDerivation
