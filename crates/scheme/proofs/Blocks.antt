@@ -11,33 +11,34 @@ use Rattle.circuit.proofs.Numbers.{length-digits}
 use Rattle.scheme.specs.Bytes.{xorBytes, Drawn, Value, value}
 use Rattle.scheme.specs.Promises.{Sound}
 use Rattle.scheme.specs.Terms.{Sort, block, text, Term, secret, public, xor, pad, tweak, _then_, same, flip, chain, regroup, swap, unit, twice, numbers, wraps, in-xor, in-pad, in-text, _≈_}
+use Rattle.scheme.proofs.Lists.{conses}
 
 pub bytes-comm : (a b : List ℕ) → xorBytes a b ≡ xorBytes b a
 unfolding zipWith
 bytes-comm [] [] = refl
 bytes-comm [] (y ∷ b) = refl
 bytes-comm (x ∷ a) [] = refl
-bytes-comm (x ∷ a) (y ∷ b) = ap₂ (λ (n : ℕ) (l : List ℕ). n ∷ l) (xor-comm x y) (bytes-comm a b)
+bytes-comm (x ∷ a) (y ∷ b) = conses (xor-comm x y) (bytes-comm a b)
 
 bytes-assoc : (a b c : List ℕ) → xorBytes (xorBytes a b) c ≡ xorBytes a (xorBytes b c)
 unfolding zipWith
 bytes-assoc [] b c = refl
 bytes-assoc (x ∷ a) [] c = refl
 bytes-assoc (x ∷ a) (y ∷ b) [] = refl
-bytes-assoc (x ∷ a) (y ∷ b) (z ∷ c) = ap₂ (λ (n : ℕ) (l : List ℕ). n ∷ l) (xor-assoc x y z) (bytes-assoc a b c)
+bytes-assoc (x ∷ a) (y ∷ b) (z ∷ c) = conses (xor-assoc x y z) (bytes-assoc a b c)
 
 pub bytes-zero : (n : ℕ) (a : List ℕ) → length a ≡ n → xorBytes a (replicate n 0) ≡ a
 unfolding zipWith
 bytes-zero n [] e = refl
 bytes-zero zero (x ∷ a) e = absurd (omega arith)
-bytes-zero (suc n) (x ∷ a) e = ap₂ (λ (n : ℕ) (l : List ℕ). n ∷ l) (xor-zero-r x) (bytes-zero n a (omega arith))
+bytes-zero (suc n) (x ∷ a) e = conses (xor-zero-r x) (bytes-zero n a (omega arith))
 
 bytes-self : (n : ℕ) (a : List ℕ) → length a ≡ n → xorBytes a a ≡ replicate n 0
 unfolding zipWith
 bytes-self zero [] e = refl
 bytes-self (suc n) [] e = absurd (omega arith)
 bytes-self zero (x ∷ a) e = absurd (omega arith)
-bytes-self (suc n) (x ∷ a) e = ap₂ (λ (n : ℕ) (l : List ℕ). n ∷ l) (xor-self x) (bytes-self n a (omega arith))
+bytes-self (suc n) (x ∷ a) e = conses (xor-self x) (bytes-self n a (omega arith))
 
 bytes-size : (n : ℕ) (a b : List ℕ) → length a ≡ n → length b ≡ n → length (xorBytes a b) ≡ n
 unfolding zipWith

@@ -17,10 +17,11 @@ use Rattle.scheme.specs.Opening.{Tweak}
 use Rattle.scheme.specs.Terms.{block, Term, secret, pad, Derives}
 use Rattle.scheme.specs.Yao.{gateAt, rowOf, tablesHolding}
 use Rattle.scheme.proofs.Derived.{deduction, derive-text, take-off}
+use Rattle.scheme.proofs.Lists.{tabulate-member}
 use Rattle.scheme.proofs.Marked.{out-of-reach, becomes-unmarked}
 use Rattle.scheme.proofs.Reach.{closedRow, Lawful, blocksOf, marking, unmarked-key, exchange, blocks-become}
 use Rattle.scheme.proofs.Rows.{Setting, gate-wires, keys-held}
-use Rattle.scheme.proofs.Tables.{tabulate-member, row-member}
+use Rattle.scheme.proofs.Tables.{row-member}
 
 module _ (tweak : Tweak) (order : ℕ → ℕ → List Bool) (c : Circuit) (on : Setting tweak order c) (act : ℕ → Bool) (held : ℕ → List Bool → Bool)
     (lawful : Lawful tweak order c on act held) where

@@ -2,7 +2,7 @@
 -- one gate. Assumes nothing.
 use mathlib.Core.Bool.{Bool}
 use mathlib.Core.List.{List, [], _∷_, zipWith}
-use mathlib.Core.Path.{_≡_, refl, sym, ap, ap₂, _∙_}
+use mathlib.Core.Path.{_≡_, refl, sym, ap, _∙_}
 use Prim.Native.Nat.{ℕ, zero, suc, _≤_}
 use native.Mathlib.Omega.{arith}
 use lib.ListN.{length, getD}
@@ -12,6 +12,7 @@ use Rattle.circuit.proofs.Numbers.{bits-binary, binary-lt, length-bits}
 use Rattle.scheme.specs.NearMisses.{byValue, unnumbered}
 use Rattle.scheme.specs.Yao.{gateAt, turned, byColour, numbered}
 use Rattle.scheme.proofs.Colours.{xor-back}
+use Rattle.scheme.proofs.Lists.{conses}
 use Rattle.scheme.proofs.Rows.{Complete, Naming}
 
 pub by-colour : (c : Circuit) (coin : ℕ → Bool) → Complete (λ k. byColour coin (gateAt c k)) c
@@ -34,7 +35,7 @@ unfolding zipWith
 turned-twice coin [] [] len = refl
 turned-twice coin [] (b ∷ cs) len = absurd (omega arith)
 turned-twice coin (w ∷ ws) [] len = absurd (omega arith)
-turned-twice coin (w ∷ ws) (b ∷ cs) len = ap₂ (λ (x : Bool) (xs : List Bool). x ∷ xs) (xor-back (coin w) b) (turned-twice coin ws cs (omega arith))
+turned-twice coin (w ∷ ws) (b ∷ cs) len = conses (xor-back (coin w) b) (turned-twice coin ws cs (omega arith))
 
 pub by-value : (c : Circuit) (coin : ℕ → Bool) → Complete (λ k. byValue coin (gateAt c k)) c
 by-value c coin =

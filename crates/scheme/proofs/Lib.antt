@@ -1,4 +1,5 @@
 mod Colours
+mod Lists
 pub mod Marked
 pub mod Derived
 pub mod Blocks

@@ -24,8 +24,9 @@ use Rattle.scheme.specs.Yao.{gateAt, rowOf, heldFor, tablesBy, yaoBy, byColour
 use Rattle.scheme.proofs.Blocks.{sound}
 use Rattle.scheme.proofs.Colours.{xor-back}
 use Rattle.scheme.proofs.Derived.{off}
+use Rattle.scheme.proofs.Lists.{conses, equal-tabulate}
 use Rattle.scheme.proofs.Rows.{input-value, gate-wires, wires-below, active-row, keys-held}
-use Rattle.scheme.proofs.Tables.{row-entry, equal-tabulate}
+use Rattle.scheme.proofs.Tables.{row-entry}
 
 text-value : (d : Drawn Key) (ks : List Key) (ns : List ℕ) → value d (textOf (map secret ks) ns) ≡ (map (d .secrets) ks, ns)
 unfolding value
@@ -54,11 +55,11 @@ module _ (coin : List Bool → ℕ → Bool) (tweak : Tweak) (decoded : Circuit 
 
   held-of : (n : ℕ) (ws : List ℕ) → All (λ w. w < n) ws → heldAt (tabulate n held) ws ≡ map held ws
   held-of n [] all = refl
-  held-of n (w ∷ ws) all = ap₂ (λ (k : List ℕ) (ks : List (List ℕ)). k ∷ ks) (getD-map-counting held 0 n w w [] (all .0) (omega arith)) (held-of n ws (all .1))
+  held-of n (w ∷ ws) all = conses (getD-map-counting held 0 n w w [] (all .0) (omega arith)) (held-of n ws (all .1))
 
   colours-held : (ws : List ℕ) → All (λ w. w < wireCount c) ws → map colourOf (map held ws) ≡ map shade ws
   colours-held [] all = refl
-  colours-held (w ∷ ws) all = ap₂ (λ (b : Bool) (bs : List Bool). b ∷ bs) (shown (active S c xs coins w) (all .0)) (colours-held ws (all .1))
+  colours-held (w ∷ ws) all = conses (shown (active S c xs coins w) (all .0)) (colours-held ws (all .1))
 
   secrets-held : (ws : List ℕ) → map (d .secrets) (map (active S c xs coins) ws) ≡ map held ws
   secrets-held [] = refl
@@ -126,7 +127,7 @@ module _ (coin : List Bool → ℕ → Bool) (tweak : Tweak) (decoded : Circuit 
   outputs-decode [] [] all = refl
   outputs-decode [] (v ∷ more) all = refl
   outputs-decode (w ∷ ws) more all =
-      ap₂ (λ (b : Bool) (bs : List Bool). b ∷ bs)
+      conses
       (ap (λ bytes. colour (coin coins w) (colourOf bytes)) (getD-map-counting held 0 (wireCount c) w w [] (all .0) (omega arith))
       ∙ ap (colour (coin coins w)) (shown (active S c xs coins w) (all .0)) ∙ xor-back (coin coins w) (at (values c xs) w))
       (outputs-decode ws more (all .1))

@@ -19,9 +19,10 @@ use Rattle.scheme.specs.Terms.{block, text, Term, secret, xor, pad, _then_, sa
 use Rattle.scheme.specs.Yao.{gateAt, rowOf, tablesHolding}
 use Rattle.scheme.proofs.Colours.{xor-same, same-from-xor, not-not}
 use Rattle.scheme.proofs.Derived.{equals, off}
+use Rattle.scheme.proofs.Lists.{tabulate-beside, map-map-beside}
 use Rattle.scheme.proofs.Marked.{carried, not-told-apart}
 use Rattle.scheme.proofs.Rows.{Setting, wires-below, keys-below, colours-held}
-use Rattle.scheme.proofs.Tables.{tabulate-beside, tables-beside, map-map-beside}
+use Rattle.scheme.proofs.Tables.{tables-beside}
 
 tweak-of-text : {A : Type 0} (ks : List (Term A block)) (ns : List ℕ) → tweakOf (textOf ks ns) ≡ ns
 unfolding tweakOf

@@ -1,7 +1,7 @@
 -- Rows and the keys that are held: a row looks open just if its colours are those held; and what is asked of tables for the argument to hold. Assumes nothing.
 use mathlib.Core.Bool.{Bool, true, false, cond, not}
 use mathlib.Core.List.{List, [], _∷_, map, zipWith}
-use mathlib.Core.Path.{_≡_, refl, sym, ap, ap₂, _∙_}
+use mathlib.Core.Path.{_≡_, refl, sym, ap, _∙_}
 use Prim.Native.Nat.{ℕ, _+_, _^_, _<_}
 use native.Mathlib.Omega.{arith}
 use lib.ListN.{length}
@@ -17,6 +17,7 @@ use Rattle.scheme.specs.Garbling.{Key, key, Row, opened, closed, allHeld, look
 use Rattle.scheme.specs.Opening.{Tweak}
 use Rattle.scheme.specs.Yao.{gateAt, turned, heldFor}
 use Rattle.scheme.proofs.Colours.{xor-same, same-from-xor, xor-back}
+use Rattle.scheme.proofs.Lists.{conses}
 
 -- Of tables the argument asks two things: a row for each choice of colours,
 pub record Complete (order : ℕ → ℕ → List Bool) (c : Circuit) : Type 0 where
@@ -59,7 +60,7 @@ module _ (coin : ℕ → Bool) (vs : List Bool) where
   turned-colours : (ws : List ℕ) → turned coin ws (map (λ w. colour (coin w) (at vs w)) ws) ≡ atAll vs ws
   unfolding zipWith
   turned-colours [] = refl
-  turned-colours (w ∷ ws) = ap₂ (λ (b : Bool) (bs : List Bool). b ∷ bs) (xor-back (coin w) (at vs w)) (turned-colours ws)
+  turned-colours (w ∷ ws) = conses (xor-back (coin w) (at vs w)) (turned-colours ws)
 
   pub turned-values : (ws : List ℕ) → turned coin ws (atAll vs ws) ≡ map (λ w. colour (coin w) (at vs w)) ws
   unfolding zipWith
@@ -95,4 +96,4 @@ module _ (held : ℕ → Bool) where
   colours-held (w ∷ ws) [] len all = absurd (omega arith)
   colours-held (w ∷ ws) (b ∷ cs) len all =
       let both = and-parts (not (b ⊕ held w)) (allHeld held (zipWith key ws cs)) all in
-      ap₂ (λ (x : Bool) (xs : List Bool). x ∷ xs) (same-from-xor b (held w) (not-true (b ⊕ held w) (both .0))) (colours-held ws cs (omega arith) (both .1))
+      conses (same-from-xor b (held w) (not-true (b ⊕ held w) (both .0))) (colours-held ws cs (omega arith) (both .1))

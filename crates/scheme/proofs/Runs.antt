@@ -2,7 +2,7 @@
 use mathlib.Core.Bool.{Bool, true, false, cond, _&&_, not}
 use mathlib.Core.List.{List, [], _∷_, _++_, map, zipWith, flatten, List·Memᴰ}
 use mathlib.Core.Logic.{_↔_, _⊎_, inl, inr}
-use mathlib.Core.Path.{_≡_, refl, sym, ap, ap₂, subst, _∙_}
+use mathlib.Core.Path.{_≡_, refl, sym, ap, subst, _∙_}
 use mathlib.Mathlib.Data.List.Forall2.{rel-flatten}
 use Prim.Native.Nat.{ℕ, _+_, _-_, _<_, _≤_}
 use native.Mathlib.Omega.{arith}
@@ -20,9 +20,10 @@ use Rattle.scheme.specs.Terms.{Derives, secret}
 use Rattle.scheme.specs.Yao.{gateAt, rowOf, tablesHolding, heldFor, Order, yaoBy}
 use Rattle.scheme.proofs.Colours.{xor-same}
 use Rattle.scheme.proofs.Known.{row-there, row-opens, held-known, only-held}
+use Rattle.scheme.proofs.Lists.{conses, tabulate-beside, beside-map-map, equal-tabulate, member-beside, tabulate-member}
 use Rattle.scheme.proofs.Reach.{closedRow, Lawful, blocksOf}
 use Rattle.scheme.proofs.Rows.{Complete, Naming, Setting, input-value, wires-below, active-row, keys-held, looks-open, colours-held}
-use Rattle.scheme.proofs.Tables.{tabulate-beside, tables-beside, beside-map-map, tabulate-member, member-beside, equal-tabulate}
+use Rattle.scheme.proofs.Tables.{tables-beside}
 
 module _ (coin : List Bool → ℕ → Bool) (order : Order) (tweak : Tweak) (decoded : Circuit → List ℕ) (c : Circuit) (xs coins : List Bool)
     (fits : Fits (yaoBy coin order tweak decoded) c xs coins) (complete : Complete (λ k. order (coin coins) (gateAt c k)) c) (naming : Naming tweak c) where
@@ -39,7 +40,7 @@ module _ (coin : List Bool → ℕ → Bool) (order : Order) (tweak : Tweak) (de
   module _ (act : ℕ → Bool) (acts : (w : ℕ) → w < wireCount c → active S c xs coins w .colour ≡ act w) where
     colours-agree : (ws : List ℕ) → All (λ w. w < wireCount c) ws → map (λ w. active S c xs coins w .colour) ws ≡ map act ws
     colours-agree [] all = refl
-    colours-agree (w ∷ ws) all = ap₂ (λ (b : Bool) (bs : List Bool). b ∷ bs) (acts w (all .0)) (colours-agree ws (all .1))
+    colours-agree (w ∷ ws) all = conses (acts w (all .0)) (colours-agree ws (all .1))
 
     pub lawful : Lawful tweak places c on act (heldFor c (coin coins))
     lawful k below =

@@ -19,10 +19,11 @@ use Rattle.scheme.specs.Terms.{block, Term, secret, _≈_, run, StaticallyEqui
 use Rattle.scheme.specs.Yao.{gateAt, rowOf, heldFor, byColour, numbered, outputsOnly, yao}
 use Rattle.scheme.proofs.Colours.{xor-twice}
 use Rattle.scheme.proofs.Layouts.{by-colour, by-number}
+use Rattle.scheme.proofs.Lists.{conses, map-map-beside, equal-tables, equal-tabulate}
 use Rattle.scheme.proofs.Reach.{Lawful, held-alike, sums-alike}
 use Rattle.scheme.proofs.Rows.{input-value, wires-below, keys-below, colours-held}
 use Rattle.scheme.proofs.Runs.{on, lawful, key-is, sent-is}
-use Rattle.scheme.proofs.Tables.{tables-beside, map-map-beside, equal-tables, equal-tabulate}
+use Rattle.scheme.proofs.Tables.{tables-beside}
 
 -- colours and coins
 pub colours-size : (coins vs : List Bool) → length (coloursOf coins vs) ≡ length coins
@@ -54,7 +55,7 @@ module _ (c : Circuit) (xs coins : List Bool) (fits : Fits yao c xs coins) where
   unfolding zipWith
   meanings-made [] all = refl
   meanings-made (w ∷ ws) all =
-      ap₂ (λ (b : Bool) (bs : List Bool). b ∷ bs)
+      conses
       (sym (ap (λ b. b ⊕ at (values c xs) w) (sym (acts w (all .0))) ∙ xor-twice (at coins w) (at (values c xs) w))) (meanings-made ws (all .1))
 
   held-agree : (ks : List Key) → All (λ k. k .wire < wireCount c) ks → allHeld (λ w. active yao c xs coins w .colour) ks ≡ allHeld (at colours) ks
