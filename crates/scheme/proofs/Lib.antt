@@ -4,6 +4,7 @@ pub mod Marked
 pub mod Derived
 pub mod Blocks
 mod Laws
+mod Bare
 mod Tables
 mod Rows
 mod Layouts

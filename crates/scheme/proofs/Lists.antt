@@ -8,6 +8,7 @@ use native.Mathlib.Nat.{add-zero}
 use native.Mathlib.Omega.{arith}
 use lib.ListN.{getD}
 use Rattle.std.specs.Iters.{counting}
+use Rattle.std.specs.shelf.Lists.{All}
 use Rattle.std.proofs.shelf.Counted.{getD-map-counting}
 use Rattle.scheme.specs.Garbling.{tabulate}
 
@@ -65,6 +66,10 @@ member-beside P {y = y} (Forall₂·cons {b = z} {l₂ = ys} h t) m = go (List·
     go : (y ≡ z) ⊎ List·Memᴰ y ys → (List·Memᴰ y ys → P y) → P y
     go (inl e) rest = subst P (sym e) h
     go (inr n) rest = rest n
+
+pub all-mem : {X : Type 0} (P : X → Type 0) {x : X} {xs : List X} → All P xs → List·Memᴰ x xs → P x
+all-mem P all (List·Memᴰ·head e) = subst P (sym e) (all .0)
+all-mem P all (List·Memᴰ·tail m) = all-mem P (all .1) m
 
 counted-member : {X : Type 0} (f : ℕ → X) (a n i : ℕ) → i < n → List·Memᴰ (f (a + i)) (map f (counting a n))
 counted-member f a zero i below = absurd (omega arith)

@@ -1,27 +1,34 @@
 -- The schemes that come near break their promises. Assumes nothing.
-use mathlib.Core.Bool.{Bool, true, false, not}
+use mathlib.Core.Bool.{Bool, true, false, _&&_, not}
 use mathlib.Core.List.{List, [], _∷_, _++_, map, zipWith, flatten}
-use mathlib.Core.Path.{_≡_, refl, sym, ap, _∙_}
+use mathlib.Core.Logic.{inl, inr}
+use mathlib.Core.Path.{_≡_, refl, sym, ap, subst, _∙_}
 use Prim.Native.Nat.{ℕ, zero, suc, _+_, _<_}
 use native.Mathlib.Omega.{arith}
+use lib.Dec.{eqb}
 use lib.ListN.{length, getD}
 use Rattle.std.specs.Iters.{counting}
 use Rattle.std.proofs.shelf.Counted.{getD-map-counting}
 use Rattle.std.proofs.shelf.Lists.{length-map, map-append, getD-append-add}
 use Rattle.std.proofs.shelf.Tests.{true≢false}
 use Rattle.circuit.specs.Circuit.{Circuit, WellFormed, GoodGates, Below, wireCount, at, atAll, extended, values, result}
-use Rattle.circuit.specs.Numbers.{binary, digits}
+use Rattle.circuit.specs.Numbers.{binary, bits, digits}
 use Rattle.circuit.proofs.Numbers.{bits-binary, binary-lt}
+use Rattle.circuit.proofs.Values.{four-of}
+use Rattle.scheme.specs.Bytes.{value}
 use Rattle.scheme.specs.Coins.{_⊕_, colour}
 use Rattle.scheme.specs.Examples.{conjunction}
 use Rattle.scheme.specs.Garbling.{Key, key, Scheme, blocks, Seen, opened, closed, View, seenAt, look, meanings, sent, active, view}
-use Rattle.scheme.specs.NearMisses.{withoutCoins, byValue, rowsByValue, unnumbered, withoutNumbers, withInner, withInnerMeanings, twoGates, overlaid, NearMisses}
-use Rattle.scheme.specs.Promises.{Fits, OneKey, HidesInputs, Matched}
-use Rattle.scheme.specs.Terms.{block, Term, secret, xor, pad, tweak, _then_, same, chain, swap, in-xor, _≈_, substitute, run}
+use Rattle.scheme.specs.NearMisses.{withoutCoins, byValue, rowsByValue, unnumbered, withoutNumbers, withInner, withInnerMeanings, twoGates, overlaid, sameWires, NearMisses}
+use Rattle.scheme.specs.Opening.{openGates}
+use Rattle.scheme.specs.Promises.{Fits, Right, OneKey, Shows, SeenByDerivation, HidesInputs, Matched}
+use Rattle.scheme.specs.Terms.{block, Term, secret, public, xor, pad, tweak, _then_, same, flip, chain, regroup, swap, unit, in-xor, _≈_, substitute, run, StaticallyEquivalent}
 use Rattle.scheme.specs.Yao.{gateAt, turned, rowOf, heldFor, byColour, numbered, outputsOnly}
-use Rattle.scheme.proofs.Colours.{xor-same, xor-back, xor-false}
+use Rattle.scheme.proofs.Bare.{bare-keys, bare-coloured, apart}
+use Rattle.scheme.proofs.Colours.{xor-same, xor-back, xor-false, same-from-xor}
 use Rattle.scheme.proofs.Derived.{off}
 use Rattle.scheme.proofs.Layouts.{by-colour, by-value, one-gate}
+use Rattle.scheme.proofs.Lists.{conses, all-mem}
 use Rattle.scheme.proofs.Opens.{right, outputs-right}
 use Rattle.scheme.proofs.Rows.{turned-values, active-row, looks-open}
 use Rattle.scheme.proofs.Schemes.{one-key-of, one-key-numbered, seen-by-derivation}
@@ -61,8 +68,12 @@ matched S hides = hides conjunction (true ∷ false ∷ []) (false ∷ true ∷ 
 
 -- without coins the first key shows it
 without-coins : HidesInputs withoutCoins → ⊥
+unfolding substitute value bare-keys zipWith digits
 without-coins hides =
-    true≢false (ap (λ (v : View). getD (v .keys) 0 (key 0 false) .colour) (matched withoutCoins hides .alike (false ∷ false ∷ false ∷ []) refl .view))
+    let one = secret (key 0 true) in
+    let nought = secret (key 0 false) in
+    let come = matched withoutCoins hides .alike (false ∷ false ∷ false ∷ []) refl .keys (secret 0) (key 0 true ∷ []) 0 .0 (flip (unit one)) in
+    apart nought (xor one (public 0)) (λ e. omega arith) come
 
 -- in the order of values the place of the open row shows it, whatever the coins
 isOpen : Seen → Bool
@@ -85,6 +96,14 @@ rows-by-value hides =
     let m = matched rowsByValue hides in
     let none : List Bool = false ∷ false ∷ false ∷ [] in
     true≢false (sym (second-open (m .there none)) ∙ sym (ap second (m .alike none refl .view)) ∙ second-closed)
+
+-- and colours do not name rows
+by-value-wrong : Right rowsByValue → ⊥
+unfolding extended zipWith digits value bare-keys openGates
+by-value-wrong right =
+    let fits : Fits rowsByValue conjunction (true ∷ true ∷ []) (true ∷ true ∷ false ∷ []) = record { well-formed = conjunction-formed; inputs = refl; drawn = refl } in
+    true≢false (sym (ap (λ bs. at bs 0) (right conjunction (true ∷ true ∷ []) (true ∷ true ∷ false ∷ []) fits bare-keys
+    (bare-coloured at byValue numbered outputsOnly conjunction (true ∷ true ∷ false ∷ [])))))
 
 -- in every circuit
 place-tells : (c : Circuit) (xs coins : List Bool) → Fits rowsByValue c xs coins → (k : ℕ) → k < length (c .gates) → (s : Seen) →
@@ -129,7 +148,7 @@ with-inner-meanings hides =
     let seen = m .alike none refl .view in
     let coins = m .there none in
     let input : true ≡ at coins 0 ⊕ false = ap (λ (v : View). getD (v .keys) 0 (key 0 false) .colour) seen in
-    let meaning : false ≡ at coins 1 = ap (λ (v : View). at (v .meanings) 1) seen in
+    let meaning : false ≡ at coins 1 = ap (λ ms. at ms 1) (m .alike none refl .meanings) in
     let row = sym last-of-one ∙ ap last seen ∙ last-of-zero coins (sym (xor-false (at coins 0)) ∙ sym input) in
     true≢false (ap colour-of row ∙ ap (λ b. b ⊕ false) (sym meaning))
 
@@ -160,18 +179,95 @@ without-numbers one =
     let fits : Fits withoutNumbers twoGates (true ∷ []) (false ∷ false ∷ false ∷ []) = record { well-formed = two-gates-formed; inputs = refl; drawn = refl } in
     true≢false (sym (one twoGates (true ∷ []) (false ∷ false ∷ false ∷ []) fits (key 1 false) .0 (overlaid, overlay-tells) .1))
 
+-- what is derived is not all seen
+isIt : Key → Bool
+isIt k = eqb (k .wire) 1 && not (k .colour)
+
+isItIn : Seen → Bool
+isItIn (opened k) = isIt k
+isItIn closed = false
+
+numbers-unseen : SeenByDerivation withoutNumbers → ⊥
+unfolding extended flatten zipWith digits isIt isItIn
+numbers-unseen sees =
+    let fits : Fits withoutNumbers twoGates (true ∷ []) (false ∷ false ∷ false ∷ []) = record { well-formed = two-gates-formed; inputs = refl; drawn = refl } in
+    go (sees twoGates (true ∷ []) (false ∷ false ∷ false ∷ []) fits .keys (key 1 false) .1 (overlaid, overlay-tells))
+  where
+    go : Shows withoutNumbers (view withoutNumbers twoGates (true ∷ []) (false ∷ false ∷ false ∷ [])) (key 1 false) → ⊥
+    go (inl m) = true≢false (all-mem (λ k. isIt k ≡ false) (refl, tt) m)
+    go (inr m) = true≢false (all-mem (λ s. isItIn s ≡ false) (refl, (refl, (refl, (refl, (refl, (refl, (refl, (refl, tt)))))))) m)
+
+-- and rows with one pad are tested against each other
+same-wires-formed : WellFormed sameWires
+unfolding digits
+same-wires-formed = (omega arith, omega arith, omega arith, omega arith, gates, outputs)
+  where
+    gates : GoodGates 2 (sameWires .gates)
+    gates zero below = (refl, omega arith, omega arith, refl)
+    gates (suc zero) below = (refl, omega arith, omega arith, refl)
+    gates (suc (suc k)) below = absurd (omega arith)
+
+    outputs : Below 4 (sameWires .outputs)
+    outputs zero below = omega arith
+    outputs (suc zero) below = omega arith
+    outputs (suc (suc k)) below = absurd (omega arith)
+
+-- what is added to both is gone
+both : {A : Type 0} (t u p : Term A block) → xor (xor t p) (xor u p) ≈ xor t u
+both t u p = chain (in-xor same (swap u p)) (chain (flip (regroup (xor t p) p u)) (in-xor (off t p) same))
+
+test-tells : StaticallyEquivalent (blocks (sent withoutNumbers sameWires (bits 2 0b10) (bits 4 0b0000))) (blocks (sent withoutNumbers sameWires (bits 2 0b01) (bits 4 0b1100))) → ⊥
+unfolding substitute flatten zipWith digits value bare-keys
+test-tells equivalent =
+    let first : Term Key block = pad (secret (key 0 false) then secret (key 1 false) then tweak (0 ∷ [])) in
+    let second : Term Key block = pad (secret (key 0 false) then secret (key 1 true) then tweak (1 ∷ [])) in
+    let zero : Term Key block = secret (key 2 false) in
+    let one : Term Key block = secret (key 2 true) in
+    let none : Term Key block = secret (key 3 false) in
+    apart (xor (xor one first) (xor none first)) (xor (xor zero second) (xor none second)) (λ e. omega arith)
+    (equivalent .tests (xor (secret 2) (secret 6)) (xor (secret 3) (secret 7)) .0 (chain (both zero none first) (flip (both zero none second))))
+
+same-seen : view withoutNumbers sameWires (bits 2 0b10) (bits 4 0b0000) ≡ view withoutNumbers sameWires (bits 2 0b01) (bits 4 0b1100)
+unfolding extended zipWith digits
+same-seen = refl
+
+same-zero : result sameWires (bits 2 0b10) ≡ result sameWires (bits 2 0b01)
+unfolding extended digits
+same-zero = refl
+
+-- the coins that show the same are those
+same-coins : (ds : List Bool) → length ds ≡ 4 → view withoutNumbers sameWires (bits 2 0b10) (bits 4 0b0000) ≡ view withoutNumbers sameWires (bits 2 0b01) ds → ds ≡ bits 4 0b1100
+unfolding digits
+same-coins ds len seen =
+    let left : true ≡ at ds 0 ⊕ false = ap (λ (v : View). getD (v .keys) 0 (key 0 false) .colour) seen in
+    let right : false ≡ at ds 1 ⊕ true = ap (λ (v : View). getD (v .keys) 1 (key 0 false) .colour) seen in
+    let and : false ≡ at ds 2 = ap (λ (v : View). at (v .meanings) 0) seen in
+    let no : false ≡ at ds 3 = ap (λ (v : View). at (v .meanings) 1) seen in
+    four-of ds len ∙ conses (sym (xor-false (at ds 0)) ∙ sym left) (conses (same-from-xor (at ds 1) true (sym right)) (conses (sym and) (conses (sym no) refl)))
+
+numbers-hide-not : HidesInputs withoutNumbers → ⊥
+unfolding digits
+numbers-hide-not hides =
+    let m = hides sameWires (bits 2 0b10) (bits 2 0b01) same-wires-formed refl refl same-zero in
+    let none : List Bool = bits 4 0b0000 in
+    let like = m .alike none refl in
+    let is = same-coins (m .there none) (m .one-to-one .there-fits none refl) (like .view) in
+    test-tells (subst (λ ds. StaticallyEquivalent (blocks (sent withoutNumbers sameWires (bits 2 0b10) none)) (blocks (sent withoutNumbers sameWires (bits 2 0b01) ds))) is (like .transcripts))
+
 pub near-misses : NearMisses
 near-misses =
     let none : List Bool → ℕ → Bool = λ coins w. false in
     record {
       without-coins = without-coins;
-      rows-by-value = rows-by-value;
-      without-numbers = without-numbers;
+      rows-by-value = (by-value-wrong, rows-by-value);
+      without-numbers = (without-numbers, numbers-unseen, numbers-hide-not);
       with-inner-meanings = with-inner-meanings;
       colour-tells = λ c xs coins w. refl;
       place-tells = place-tells;
       overlay-tells = overlay-tells;
       one-gate = λ c few. one-key-of at byColour outputsOnly by-colour unnumbered c (one-gate c few);
+      test-tells = test-tells;
+      same-seen = same-seen;
       meanings-tell = meanings-tell;
       right-too = (outputs-right none numbered, outputs-right at unnumbered, right at numbered (λ c. counting (c .inputs) (length (c .gates))));
       one-key-too = (one-key-numbered none byColour outputsOnly by-colour, one-key-numbered at byValue outputsOnly by-value, one-key-numbered at byColour withInner by-colour);

@@ -1,18 +1,15 @@
 -- The statement, put together. Assumes nothing.
 use mathlib.Core.Bool.{Bool, true, false, _&&_, not}
-use mathlib.Core.List.{List, [], _∷_, _++_}
 use mathlib.Core.Path.{_≡_, refl, ap, ap₂}
 use lib.Dec.{eqb}
-use lib.ListN.{replicate}
 use Rattle.std.proofs.shelf.Tests.{and-parts, and-from, not-true, eqb-true, eq-eqb}
-use Rattle.circuit.specs.Circuit.{Circuit, at}
-use Rattle.circuit.specs.Numbers.{bit}
-use Rattle.scheme.specs.Bytes.{Drawn, value, colourOf}
+use Rattle.circuit.specs.Circuit.{at}
 use Rattle.scheme.specs.Coins.{_⊕_}
 use Rattle.scheme.specs.Garbling.{Key, key}
-use Rattle.scheme.specs.Promises.{Coloured, KeepsPromises}
+use Rattle.scheme.specs.Promises.{KeepsPromises}
 use Rattle.scheme.specs.Statement.{Statement}
 use Rattle.scheme.specs.Yao.{byColour, numbered, outputsOnly, yao}
+use Rattle.scheme.proofs.Bare.{bare-keys, bare-coloured}
 use Rattle.scheme.proofs.Blocks.{sound}
 use Rattle.scheme.proofs.Colours.{xor-same, same-from-xor}
 use Rattle.scheme.proofs.Derived.{deduction}
@@ -25,29 +22,11 @@ use Rattle.scheme.proofs.Schemes.{one-key-numbered, seen-by-derivation}
 use Rattle.scheme.proofs.Simulated.{simulatable, hides-if-simulatable}
 use Rattle.scheme.proofs.Worked.{worked}
 
--- keys of no bits but their colours, and a hash of none
-bare-keys : Drawn Key
-bare-keys =
-    record {
-      hash = λ ks ns. replicate 16 0;
-      hash-size = λ ks ns. refl;
-      secrets = λ k. replicate 15 0 ++ (bit (k .colour) ∷ []);
-      secrets-size = λ k. refl;
-    }
-
-bare-coloured : (c : Circuit) (coins : List Bool) → Coloured yao c coins bare-keys
-unfolding value bare-keys
-bare-coloured c coins k below = go (k .colour)
-  where
-    go : (b : Bool) → colourOf (replicate 15 0 ++ (bit b ∷ [])) ≡ b
-    go true = refl
-    go false = refl
-
 promises : KeepsPromises yao
 promises =
     record {
       right = outputs-right at numbered;
-      drawable = λ c coins. (bare-keys, bare-coloured c coins);
+      drawable = λ c coins. (bare-keys, bare-coloured at byColour numbered outputsOnly c coins);
       one-key = one-key-numbered at byColour outputsOnly by-colour;
       seen = seen-by-derivation at byColour outputsOnly by-colour;
       simulated = simulatable;
@@ -73,6 +52,7 @@ statement =
     record {
       promises = promises;
       near-misses = near-misses;
+      simulation-hides = hides-if-simulatable;
       sound = sound;
       all-laws = all-laws same-keys same-from-test self-test;
       deduction = deduction;

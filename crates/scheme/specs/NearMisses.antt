@@ -1,4 +1,4 @@
--- Schemes that come near: each decides one thing otherwise, and breaks a promise. Assumes nothing.
+-- Schemes that come near: each decides one thing otherwise, and breaks a promise; and each promise is broken by one of them. Assumes nothing.
 use mathlib.Core.Bool.{Bool, true, false}
 use mathlib.Core.List.{List, [], _∷_, _++_}
 use mathlib.Core.Path.{_≡_}
@@ -11,7 +11,7 @@ use Rattle.scheme.specs.Coins.{colour}
 use Rattle.scheme.specs.Garbling.{Key, key, Scheme, blocks, Seen, opened, seenAt, meanings, sent, active, view}
 use Rattle.scheme.specs.Opening.{Tweak}
 use Rattle.scheme.specs.Promises.{Fits, Right, OneKeyOf, OneKey, SeenByDerivation, HidesInputs}
-use Rattle.scheme.specs.Terms.{block, secret, xor, pad, tweak, _then_, _≈_, Recipe, run}
+use Rattle.scheme.specs.Terms.{block, secret, xor, pad, tweak, _then_, _≈_, Recipe, run, StaticallyEquivalent}
 use Rattle.scheme.specs.Yao.{gateAt, Order, turned, byColour, numbered, yaoBy, outputsOnly}
 
 -- without coins: a key's colour is its value
@@ -57,11 +57,21 @@ twoGates =
 abbrev pub overlaid : Recipe block
 overlaid = xor (secret 1) (xor (secret 5) (xor (secret 8) (pad (secret 0 then secret 0 then tweak (3 ∷ [])))))
 
+-- two gates over the same two inputs: and, and 0; both are outputs
+abbrev pub sameWires : Circuit
+sameWires =
+    record {
+      inputs = 2;
+      opener = 0;
+      gates = record { wires = 0 ∷ 1 ∷ []; gives = bits 4 0b0001 } ∷ record { wires = 0 ∷ 1 ∷ []; gives = bits 4 0b0000 } ∷ [];
+      outputs = 2 ∷ 3 ∷ [];
+    }
+
 pub record NearMisses : Type 0 where
-  -- the promise that each breaks
+  -- the promises that each breaks
   pub without-coins : HidesInputs withoutCoins → ⊥
-  pub rows-by-value : HidesInputs rowsByValue → ⊥
-  pub without-numbers : OneKey withoutNumbers → ⊥
+  pub rows-by-value : (Right rowsByValue → ⊥) × (HidesInputs rowsByValue → ⊥)
+  pub without-numbers : (OneKey withoutNumbers → ⊥) × (SeenByDerivation withoutNumbers → ⊥) × (HidesInputs withoutNumbers → ⊥)
   pub with-inner-meanings : HidesInputs withInnerMeanings → ⊥
   -- Why: without coins the colour of the key that is held of a wire is the wire's value;
   pub colour-tells : (c : Circuit) (xs coins : List Bool) (w : ℕ) → active withoutCoins c xs coins w .colour ≡ at (values c xs) w
@@ -71,6 +81,9 @@ pub record NearMisses : Type 0 where
   -- without numbers the key of 0 of the first gate's wire comes out, whose value is 1 (of each wire one key comes out where there are fewer gates than two);
   pub overlay-tells : run (blocks (sent withoutNumbers twoGates (true ∷ []) (false ∷ false ∷ false ∷ []))) overlaid ≈ secret (key 1 false)
   pub one-gate : (c : Circuit) → length (c .gates) ≤ 1 → OneKeyOf withoutNumbers c
+  -- and two inputs of which the same is seen are told apart by a test on what is sent;
+  pub test-tells : StaticallyEquivalent (blocks (sent withoutNumbers sameWires (bits 2 0b10) (bits 4 0b0000))) (blocks (sent withoutNumbers sameWires (bits 2 0b01) (bits 4 0b1100))) → ⊥
+  pub same-seen : view withoutNumbers sameWires (bits 2 0b10) (bits 4 0b0000) ≡ view withoutNumbers sameWires (bits 2 0b01) (bits 4 0b1100)
   -- with inner meanings the key that is held of a gate's wire is read as its value.
   pub meanings-tell : (c : Circuit) (xs coins : List Bool) (k : ℕ) → k < length (c .gates) →
       colour (at (meanings withInnerMeanings c coins) (length (c .outputs) + k)) (active withInnerMeanings c xs coins (c .inputs + k) .colour) ≡ at (values c xs) (c .inputs + k)

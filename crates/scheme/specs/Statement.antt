@@ -1,10 +1,10 @@
 -- The statement of what can be known. Assumes nothing.
 use mathlib.Core.List.{List}
 use Rattle.scheme.specs.Examples.{WorkedExamples}
-use Rattle.scheme.specs.Garbling.{Key}
+use Rattle.scheme.specs.Garbling.{Key, Scheme}
 use Rattle.scheme.specs.Marking.{OutOfReach, Carried, NotToldApart}
 use Rattle.scheme.specs.NearMisses.{NearMisses}
-use Rattle.scheme.specs.Promises.{Sound, AllLaws, KeepsPromises}
+use Rattle.scheme.specs.Promises.{Sound, AllLaws, Simulatable, HidesInputs, KeepsPromises}
 use Rattle.scheme.specs.Terms.{block, Term, Deduction}
 use Rattle.scheme.specs.Yao.{yao}
 
@@ -13,6 +13,8 @@ pub record Statement : Type 0 where
   pub promises : KeepsPromises yao
   -- and each that comes near breaks one
   pub near-misses : NearMisses
+  -- whatever can be simulated hides inputs
+  pub simulation-hides : (S : Scheme Key) → Simulatable S → HidesInputs S
   -- equal terms are equal bytes, with all laws of exclusive or, and derivation has its rules
   pub sound : Sound Key
   pub all-laws : AllLaws Key
