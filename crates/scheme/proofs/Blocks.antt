@@ -1,5 +1,5 @@
 -- Exclusive or of bytes has its laws, so equal terms are equal bytes. Assumes nothing.
-use mathlib.Core.List.{List, [], _∷_, _++_, map, zipWith}
+use mathlib.Core.List.{List, [], _∷_, _++_, zipWith}
 use mathlib.Core.Path.{_≡_, refl, sym, ap, ap₂, _∙_}
 use Prim.Native.Nat.{ℕ, zero, suc, _+_, _*_, _/_, _%_, _^_, _<_}
 use native.Mathlib.Omega.{arith}
@@ -8,9 +8,9 @@ use lib.ListN.{length, replicate}
 use Rattle.std.proofs.shelf.Bits.{mod-pow-add, mod-below, div-mul-add, mod-mul-add}
 use Rattle.circuit.specs.Numbers.{digits}
 use Rattle.circuit.proofs.Numbers.{length-digits}
-use Rattle.scheme.specs.Bytes.{xorBytes, Drawn, Value, value}
+use Rattle.scheme.specs.Bytes.{xorBytes, Drawn, value}
 use Rattle.scheme.specs.Promises.{Sound}
-use Rattle.scheme.specs.Terms.{Sort, block, text, Term, secret, public, xor, pad, tweak, _then_, same, flip, chain, regroup, swap, unit, twice, numbers, wraps, in-xor, in-pad, in-text, _≈_}
+use Rattle.scheme.specs.Terms.{Sort, block, Term, secret, public, xor, pad, same, flip, chain, regroup, swap, unit, twice, numbers, wraps, in-xor, in-pad, in-text, _≈_}
 use Rattle.scheme.proofs.Lists.{conses}
 
 pub bytes-comm : (a b : List ℕ) → xorBytes a b ≡ xorBytes b a

@@ -1,11 +1,11 @@
 -- Equal terms, the rules of deduction, and what is got by them from a row. Assumes nothing.
-use mathlib.Core.List.{List, [], _∷_, map, List·Memᴰ, List·Memᴰ·head, List·Memᴰ·tail}
-use mathlib.Core.Path.{_≡_, refl, sym}
+use mathlib.Core.List.{List, [], _∷_, List·Memᴰ, List·Memᴰ·head, List·Memᴰ·tail}
+use mathlib.Core.Path.{_≡_, sym}
 use Prim.Native.Nat.{ℕ, suc}
 use lib.ListN.{getD}
 use Rattle.std.specs.shelf.Lists.{All}
 use Rattle.scheme.specs.Garbling.{textOf}
-use Rattle.scheme.specs.Terms.{Sort, block, text, Term, secret, public, xor, pad, tweak, _then_, same, chain, regroup, unit, twice, in-xor, in-pad, in-text, _≈_, substitute, Derives, Deduction}
+use Rattle.scheme.specs.Terms.{Sort, block, Term, secret, public, xor, pad, tweak, _then_, same, chain, regroup, unit, twice, in-xor, in-pad, in-text, _≈_, substitute, Derives, Deduction}
 
 pub equals : {A : Type 0} {s : Sort} {t u : Term A s} → t ≡ u → t ≈ u
 equals e = rw e same

@@ -1,9 +1,9 @@
 -- The laws of exclusive or are all there: terms without pads that are equal bytes, whatever is drawn, are equal terms. Such a term is a sum of secrets and a number;
 -- drawing one secret as 1 and all others as 0 shows whether it stands in the sum an odd number of times. Assumes nothing.
-use mathlib.Core.Bool.{Bool, true, false, cond}
+use mathlib.Core.Bool.{Bool, true, false}
 use mathlib.Core.List.{List, [], _∷_, _++_, map, zipWith}
 use mathlib.Core.Path.{_≡_, refl, sym, ap, _∙_}
-use Prim.Native.Nat.{ℕ, zero, suc, _+_, _%_, _^_, _<_, _≤_}
+use Prim.Native.Nat.{ℕ, zero, suc, _%_, _^_, _<_, _≤_}
 use native.Mathlib.Omega.{arith}
 use lib.Bits.{bitXor, xor-assoc, xor-self, xor-zero-r}
 use lib.ListN.{length, getD, replicate}

@@ -1,14 +1,14 @@
 -- No marked term is derived from unmarked ones, and nobody tells apart two lists of which each becomes the other by an exchange: the core argument, for
 -- any scheme over terms. Assumes nothing.
 use mathlib.Core.Bool.{Bool, true, false, cond, _||_, _&&_}
-use mathlib.Core.List.{List, [], _∷_, Forall₂, Forall₂·nil, Forall₂·cons}
+use mathlib.Core.List.{List, [], _∷_, Forall₂·nil, Forall₂·cons}
 use mathlib.Core.Path.{_≡_, refl, sym, ap, ap₂, _∙_}
 use Prim.Native.Nat.{ℕ, zero, suc}
 use lib.ListN.{length, getD}
 use Rattle.std.specs.shelf.Lists.{All}
 use Rattle.scheme.specs.Coins.{_⊕_}
 use Rattle.scheme.specs.Marking.{Marking, tweakOf, marked, OutOfReach, Exchange, exchanged, Becomes, Carried, NotToldApart}
-use Rattle.scheme.specs.Terms.{Sort, block, text, Term, secret, public, xor, pad, tweak, _then_, Equal, same, flip, chain, regroup, swap, unit, twice, numbers, wraps, in-xor, in-pad, in-text, _≈_, substitute, Recipe, run, Derives, StaticallyEquivalent}
+use Rattle.scheme.specs.Terms.{Sort, block, text, Term, secret, public, xor, pad, tweak, _then_, same, flip, chain, regroup, swap, unit, twice, numbers, wraps, in-xor, in-pad, in-text, _≈_, substitute, Recipe, run}
 use Rattle.scheme.proofs.Colours.{xor-assoc, xor-comm, xor-same, xor-false}
 
 -- equal texts have one tweak, and equal terms are marked alike

@@ -11,7 +11,7 @@ use Rattle.std.specs.Iters.{counting}
 use Rattle.std.proofs.shelf.Counted.{getD-map-counting}
 use Rattle.std.proofs.shelf.Lists.{length-map, map-append, getD-append-add}
 use Rattle.std.proofs.shelf.Tests.{true≢false}
-use Rattle.circuit.specs.Circuit.{Circuit, WellFormed, GoodGates, Below, wireCount, at, atAll, extended, values, result}
+use Rattle.circuit.specs.Circuit.{Circuit, WellFormed, GoodGates, Below, at, atAll, extended, values, result}
 use Rattle.circuit.specs.Numbers.{binary, bits, digits}
 use Rattle.circuit.proofs.Numbers.{bits-binary, binary-lt}
 use Rattle.circuit.proofs.Values.{four-of}

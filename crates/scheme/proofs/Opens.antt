@@ -1,24 +1,23 @@
 -- The opening of what is sent gives the circuit's result, for all coins, keys and hashes. Assumes nothing.
-use mathlib.Core.Bool.{Bool, true, false}
+use mathlib.Core.Bool.{Bool}
 use mathlib.Core.List.{List, [], _∷_, _++_, map, map-map, zipWith}
 use mathlib.Core.Path.{_≡_, refl, sym, ap, ap₂, fun-ext, _∙_}
-use Prim.Native.Nat.{ℕ, zero, suc, _+_, _^_, _<_, _≤_}
+use Prim.Native.Nat.{ℕ, zero, suc, _+_, _^_, _<_}
 use native.Mathlib.Omega.{arith}
 use lib.ListN.{length, getD, drop}
 use Rattle.std.specs.Iters.{counting}
 use Rattle.std.specs.shelf.Lists.{All}
-use Rattle.std.proofs.shelf.Counted.{length-map-counting, getD-map-counting, map-counting-more}
+use Rattle.std.proofs.shelf.Counted.{getD-map-counting, map-counting-more}
 use Rattle.std.proofs.shelf.Elements.{all-from-getD}
 use Rattle.std.proofs.shelf.Lists.{append-nil, length-map, drop-more, drop-all, drop-drop, getD-drop}
 use Rattle.circuit.specs.Circuit.{Circuit, WellFormed, wireCount, noGate, at, atAll, values, result}
-use Rattle.circuit.specs.Numbers.{binary, bits}
-use Rattle.circuit.specs.declared.gates.Gate.{Gate}
+use Rattle.circuit.specs.Numbers.{binary}
 use Rattle.circuit.proofs.Numbers.{bits-binary, binary-lt}
 use Rattle.scheme.specs.Bytes.{xorBytes, colourOf, Drawn, value}
-use Rattle.scheme.specs.Coins.{_⊕_, colour}
+use Rattle.scheme.specs.Coins.{colour}
 use Rattle.scheme.specs.Garbling.{Key, key, Scheme, textOf, tabulate, valueKey, cipher, sent, active}
 use Rattle.scheme.specs.Opening.{Tweak, openRow, openGate, heldAt, openGates, decode, evaluateBy}
-use Rattle.scheme.specs.Promises.{Fits, Coloured, Right}
+use Rattle.scheme.specs.Promises.{Right}
 use Rattle.scheme.specs.Terms.{block, Term, secret, xor, pad}
 use Rattle.scheme.specs.Yao.{gateAt, rowOf, heldFor, tablesBy, yaoBy, byColour, outputsOnly}
 use Rattle.scheme.proofs.Blocks.{sound}

@@ -9,7 +9,7 @@ use native.Mathlib.Omega.{arith}
 use lib.Dec.{ltb}
 use lib.ListN.{length}
 use Rattle.std.specs.shelf.Lists.{All}
-use Rattle.std.proofs.shelf.Tests.{true≢false, lt-ltb, ltb-true, not-false, not-true}
+use Rattle.std.proofs.shelf.Tests.{true≢false, lt-ltb, ltb-true}
 use Rattle.circuit.specs.Circuit.{Circuit, wireCount}
 use Rattle.scheme.specs.Coins.{_⊕_}
 use Rattle.scheme.specs.Garbling.{Key, key, Row, textOf, tabulate, allHeld}

@@ -13,7 +13,7 @@ use Rattle.circuit.specs.Circuit.{Circuit, WellFormed, wireCount, at, atAll, va
 use Rattle.circuit.specs.Numbers.{binary}
 use Rattle.circuit.proofs.Values.{assigned, two-of}
 use Rattle.scheme.specs.Coins.{_⊕_, colour}
-use Rattle.scheme.specs.Garbling.{Key, key, Row, opened, closed, allHeld, look}
+use Rattle.scheme.specs.Garbling.{key, Row, opened, closed, allHeld, look}
 use Rattle.scheme.specs.Opening.{Tweak}
 use Rattle.scheme.specs.Yao.{gateAt, turned, heldFor}
 use Rattle.scheme.proofs.Colours.{xor-same, same-from-xor, xor-back}

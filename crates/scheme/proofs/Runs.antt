@@ -1,5 +1,5 @@
 -- A run of a scheme whose tables are complete and whose tweaks tell their rows: of each wire one key, and what is seen is what can be derived. Assumes nothing.
-use mathlib.Core.Bool.{Bool, true, false, cond, _&&_, not}
+use mathlib.Core.Bool.{Bool, true, false, cond, not}
 use mathlib.Core.List.{List, [], _∷_, _++_, map, zipWith, flatten, List·Memᴰ}
 use mathlib.Core.Logic.{_↔_, _⊎_, inl, inr}
 use mathlib.Core.Path.{_≡_, refl, sym, ap, subst, _∙_}
@@ -11,7 +11,7 @@ use Rattle.std.specs.shelf.Lists.{All}
 use Rattle.std.proofs.shelf.Elements.{all-map, all-weaker}
 use Rattle.std.proofs.shelf.Lists.{length-map}
 use Rattle.std.proofs.shelf.Tests.{true≢false, cases-lt, and-from}
-use Rattle.circuit.specs.Circuit.{Circuit, wireCount, at, values}
+use Rattle.circuit.specs.Circuit.{Circuit, wireCount, at}
 use Rattle.scheme.specs.Coins.{_⊕_, colour}
 use Rattle.scheme.specs.Garbling.{Key, key, Row, Scheme, blocks, Seen, opened, closed, View, allHeld, look, valueKey, sent, active, view}
 use Rattle.scheme.specs.Opening.{Tweak}
@@ -19,7 +19,7 @@ use Rattle.scheme.specs.Promises.{Fits, Known, SeenAs, as-open, as-closed, Sho
 use Rattle.scheme.specs.Terms.{Derives, secret}
 use Rattle.scheme.specs.Yao.{gateAt, rowOf, tablesHolding, heldFor, Order, yaoBy}
 use Rattle.scheme.proofs.Colours.{xor-same}
-use Rattle.scheme.proofs.Known.{row-there, row-opens, held-known, only-held}
+use Rattle.scheme.proofs.Known.{row-there, held-known, only-held}
 use Rattle.scheme.proofs.Lists.{conses, tabulate-beside, beside-map-map, equal-tabulate, member-beside, tabulate-member}
 use Rattle.scheme.proofs.Reach.{closedRow, Lawful, blocksOf}
 use Rattle.scheme.proofs.Rows.{Complete, Naming, Setting, input-value, wires-below, active-row, keys-held, looks-open, colours-held}

@@ -10,11 +10,11 @@ use Rattle.std.specs.shelf.Lists.{All}
 use Rattle.std.proofs.shelf.Counted.{length-map-counting, getD-map-counting}
 use Rattle.std.proofs.shelf.Elements.{all-from-getD}
 use Rattle.std.proofs.shelf.Lists.{ext-getD}
-use Rattle.circuit.specs.Circuit.{Circuit, WellFormed, wireCount, at, atAll, values, result}
+use Rattle.circuit.specs.Circuit.{Circuit, wireCount, at, atAll, values, result}
 use Rattle.scheme.specs.Coins.{_⊕_, colour, coloursOf}
-use Rattle.scheme.specs.Garbling.{Key, key, Row, Scheme, blocks, Got, opened, closed, allHeld, look, valueKey, active, sent, view, got}
-use Rattle.scheme.specs.Promises.{Alike, OneToOne, Fits, Simulatable, HidesInputs}
-use Rattle.scheme.specs.Simulation.{fakeTables, simulate}
+use Rattle.scheme.specs.Garbling.{Key, key, Scheme, blocks, Got, opened, closed, allHeld, look, valueKey, active, view, got}
+use Rattle.scheme.specs.Promises.{Alike, Fits, Simulatable, HidesInputs}
+use Rattle.scheme.specs.Simulation.{simulate}
 use Rattle.scheme.specs.Terms.{block, Term, secret, _≈_, run, StaticallyEquivalent, sum}
 use Rattle.scheme.specs.Yao.{gateAt, rowOf, heldFor, byColour, numbered, outputsOnly, yao}
 use Rattle.scheme.proofs.Colours.{xor-twice}

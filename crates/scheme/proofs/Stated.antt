@@ -1,5 +1,5 @@
 -- The statement, put together. Assumes nothing.
-use mathlib.Core.Bool.{Bool, true, false, _&&_, not}
+use mathlib.Core.Bool.{Bool, true, _&&_, not}
 use mathlib.Core.Path.{_≡_, refl, ap, ap₂}
 use lib.Dec.{eqb}
 use Rattle.std.proofs.shelf.Tests.{and-parts, and-from, not-true, eqb-true, eq-eqb}

@@ -2,7 +2,7 @@
 -- rows; the meanings turn the outputs' colours into the result. It sees no input. Assumes nothing.
 use mathlib.Core.Bool.{Bool}
 use mathlib.Core.List.{List, map, zipWith}
-use Prim.Native.Nat.{ℕ, _+_}
+use Prim.Native.Nat.{_+_}
 use Rattle.circuit.specs.Circuit.{Circuit, at, atAll}
 use Rattle.scheme.specs.Coins.{_⊕_}
 use Rattle.scheme.specs.Garbling.{Key, key, Row, Got, tabulate, look, cipher}
