@@ -47,6 +47,7 @@ conjunction-formed = (omega arith, omega arith, omega arith, omega arith, gates,
     outputs (suc k) below = absurd (omega arith)
 
 two-gates-formed : WellFormed twoGates
+unfolding digits
 two-gates-formed = (omega arith, omega arith, omega arith, omega arith, gates, outputs)
   where
     gates : GoodGates 1 (twoGates .gates)
@@ -121,7 +122,7 @@ place-tells c xs coins fits k below s =
 
 -- with inner meanings the key in an open row shows it
 one-zero : result twoGates (true ∷ []) ≡ result twoGates (false ∷ [])
-unfolding extended
+unfolding extended digits
 one-zero = refl
 
 last : View → Seen
@@ -167,14 +168,14 @@ meanings-tell c xs coins k below =
 overlay : {A : Type 0} (t u p q : Term A block) → xor (xor t p) (xor (xor u p) (xor (xor u q) q)) ≈ t
 overlay t u p q = chain (in-xor same (chain (in-xor (swap u p) (off u q)) (off p u))) (off t p)
 
-overlay-tells : run (blocks (sent withoutNumbers twoGates (true ∷ []) (false ∷ false ∷ false ∷ []))) overlaid ≈ secret (key 1 false)
+overlay-tells : run (blocks (sent withoutNumbers twoGates (bits 1 1) (bits 3 0b000))) overlaid ≈ secret (key 1 false)
 unfolding substitute flatten zipWith digits
 overlay-tells =
     overlay (secret (key 1 false)) (secret (key 2 false)) (pad (secret (key 0 false) then secret (key 0 false) then tweak (0 ∷ [])))
     (pad (secret (key 0 true) then secret (key 0 true) then tweak (3 ∷ [])))
 
 without-numbers : OneKey withoutNumbers → ⊥
-unfolding extended
+unfolding extended digits
 without-numbers one =
     let fits : Fits withoutNumbers twoGates (true ∷ []) (false ∷ false ∷ false ∷ []) = record { well-formed = two-gates-formed; inputs = refl; drawn = refl } in
     true≢false (sym (one twoGates (true ∷ []) (false ∷ false ∷ false ∷ []) fits (key 1 false) .0 (overlaid, overlay-tells) .1))

@@ -9,7 +9,7 @@ use Rattle.scheme.specs.Bytes.{Evaluation}
 use Rattle.scheme.specs.Coins.{_⊕_, colour}
 use Rattle.scheme.specs.Terms.{block, text, Term, xor, pad, tweak, _then_}
 
--- a key (wire key), by its wire and its colour
+-- a key (wire label), by its wire and its colour
 pub record Key : Type 0 where
   pub wire : ℕ
   pub colour : Bool

@@ -17,8 +17,8 @@ unfoldable pub tweakOf : {A : Type 0} → Term A text → List ℕ
 tweakOf (tweak ns) = ns
 tweakOf (k then t) = tweakOf t
 
--- The test. A text is marked if one of its blocks is, and its pad if the row does hold a marked key besides: so in a row that cannot be opened the mark of
--- the key and that of the pad cancel.
+-- The test. A text is marked if one of its blocks is, and its pad if besides the row that its tweak names holds a marked key: so in a row that cannot be
+-- opened the mark of the key and that of the pad cancel.
 unfoldable pub marked : {A : Type 0} {s : Sort} → Marking A → Term A s → Bool
 unfolding tweakOf
 marked m (secret k) = m .secrets k

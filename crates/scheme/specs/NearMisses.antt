@@ -1,5 +1,5 @@
 -- Schemes that come near: each decides one thing otherwise, and breaks a promise; and each promise is broken by one of them. Assumes nothing.
-use mathlib.Core.Bool.{Bool, true, false}
+use mathlib.Core.Bool.{Bool, false}
 use mathlib.Core.List.{List, [], _∷_, _++_}
 use mathlib.Core.Path.{_≡_}
 use Prim.Native.Nat.{ℕ, _+_, _<_, _≤_}
@@ -45,9 +45,7 @@ twoGates =
     record {
       inputs = 1;
       opener = 0;
-      gates =
-          record { wires = 0 ∷ 0 ∷ []; gives = false ∷ false ∷ false ∷ true ∷ [] }
-          ∷ record { wires = 0 ∷ 0 ∷ []; gives = false ∷ false ∷ false ∷ false ∷ [] } ∷ [];
+      gates = record { wires = 0 ∷ 0 ∷ []; gives = bits 4 0b0001 } ∷ record { wires = 0 ∷ 0 ∷ []; gives = bits 4 0b0000 } ∷ [];
       outputs = 2 ∷ [];
     }
 
@@ -79,7 +77,7 @@ pub record NearMisses : Type 0 where
   pub place-tells : (c : Circuit) (xs coins : List Bool) → Fits rowsByValue c xs coins → (k : ℕ) → k < length (c .gates) → (s : Seen) →
       seenAt (view rowsByValue c xs coins) k (binary (atAll (values c xs) (gateAt c k .wires))) s ≡ opened (active rowsByValue c xs coins (c .inputs + k))
   -- without numbers the key of 0 of the first gate's wire comes out, whose value is 1 (of each wire one key comes out where there are fewer gates than two);
-  pub overlay-tells : run (blocks (sent withoutNumbers twoGates (true ∷ []) (false ∷ false ∷ false ∷ []))) overlaid ≈ secret (key 1 false)
+  pub overlay-tells : run (blocks (sent withoutNumbers twoGates (bits 1 1) (bits 3 0b000))) overlaid ≈ secret (key 1 false)
   pub one-gate : (c : Circuit) → length (c .gates) ≤ 1 → OneKeyOf withoutNumbers c
   -- and two inputs of which the same is seen are told apart by a test on what is sent;
   pub test-tells : StaticallyEquivalent (blocks (sent withoutNumbers sameWires (bits 2 0b10) (bits 4 0b0000))) (blocks (sent withoutNumbers sameWires (bits 2 0b01) (bits 4 0b1100))) → ⊥

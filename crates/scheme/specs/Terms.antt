@@ -51,7 +51,7 @@ substitute f (pad t) = pad (substitute f t)
 substitute f (tweak ns) = tweak ns
 substitute f (k then t) = substitute f k then substitute f t
 
--- a recipe says what to do with blocks that one has, by their places in a list: it is a term over places
+-- a recipe says what to do with blocks that one has: it is a term over their places in a list, in which `secret i` takes the block at place i
 abbrev pub Recipe : Sort → Type 0
 Recipe s = Term ℕ s
 

@@ -19,16 +19,16 @@ gateAt c k = getD (c .gates) k noGate
 abbrev pub turned : (coin : ℕ → Bool) → List ℕ → List Bool → List Bool
 turned coin ws bs = zipWith (λ w b. colour (coin w) b) ws bs
 
--- a row of gate k: the keys that open it have some colours, and in it is the key of the gate's own wire with another
+-- a row of gate k for keys of some colours, which holds the key of colour b of the gate's own wire
 abbrev pub rowOf : Tweak → Circuit → ℕ → List Bool → Bool → Row
 rowOf tweak c k cs b = record { keys = zipWith key (gateAt c k .wires) cs; tweak = tweak k cs; holds = key (c .inputs + k) b }
 
--- for each gate a row for each choice of colours, by what stands at each place and by what is held for it
+-- for each gate a row for each choice of colours: `order` says which colours belong to a place, `held` the colour of the key that their row holds
 abbrev pub tablesHolding : Tweak → Circuit → (order : ℕ → ℕ → List Bool) → (held : ℕ → List Bool → Bool) → List (List Row)
 tablesHolding tweak c order held =
     tabulate (length (c .gates)) (λ k. tabulate (2 ^ length (gateAt c k .wires)) (λ p. rowOf tweak c k (order k p) (held k (order k p))))
 
--- the key that belongs into a row is that of what the gate gives for the values that the row's colours mean
+-- the colour of the key that belongs into a row: that of what the gate gives for the values that the row's colours mean
 abbrev pub heldFor : Circuit → (coin : ℕ → Bool) → ℕ → List Bool → Bool
 heldFor c coin k cs = colour (coin (c .inputs + k)) (at (gateAt c k .gives) (binary (turned coin (gateAt c k .wires) cs)))
 
