@@ -1,4 +1,4 @@
-// Coins, and how those of two inputs with one result are paired.
+// The pairing of coins; and, in specs/, the scheme as terms and the statement of what can be known, which `pair` carries.
 mod pairing;
 
 pub use pairing::Pairing;
