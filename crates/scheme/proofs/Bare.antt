@@ -2,8 +2,10 @@
 use mathlib.Core.Bool.{Bool, true, false}
 use mathlib.Core.List.{List, [], _∷_, _++_}
 use mathlib.Core.Path.{_≡_, refl, ap}
-use Prim.Native.Nat.{ℕ}
+use Prim.Native.Nat.{ℕ, zero, suc, _<_}
+use native.Mathlib.Omega.{arith}
 use lib.ListN.{getD, replicate}
+use Rattle.std.specs.shelf.Lists.{All}
 use Rattle.circuit.specs.Circuit.{Circuit}
 use Rattle.circuit.specs.Numbers.{bit}
 use Rattle.scheme.specs.Bytes.{Drawn, value, colourOf}
@@ -14,14 +16,23 @@ use Rattle.scheme.specs.Terms.{block, Term, _≈_}
 use Rattle.scheme.specs.Yao.{Order, yaoBy}
 use Rattle.scheme.proofs.Blocks.{sound}
 
-unfoldable pub bare-keys : Drawn Key
-bare-keys =
+pub small-zeros : (n : ℕ) (b : Bool) → All (λ x. x < 256) (replicate n 0 ++ (bit b ∷ []))
+small-zeros zero true = (omega arith, tt)
+small-zeros zero false = (omega arith, tt)
+small-zeros (suc n) b = (omega arith, small-zeros n b)
+
+-- secrets of one bit each
+abbrev pub drawing : {A : Type 0} → (A → Bool) → Drawn A
+drawing one =
     record {
-      hash = λ ks ns. replicate 16 0;
-      hash-size = λ ks ns. refl;
-      secrets = λ k. replicate 15 0 ++ (bit (k .colour) ∷ []);
-      secrets-size = λ k. refl;
+      hash = λ ks ns. replicate 15 0 ++ (0 ∷ []);
+      hash-block = λ ks ns. (refl, small-zeros 15 false);
+      secrets = λ k. replicate 15 0 ++ (bit (one k) ∷ []);
+      secrets-block = λ k. (refl, small-zeros 15 (one k));
     }
+
+unfoldable pub bare-keys : Drawn Key
+bare-keys = drawing (λ k. k .colour)
 
 pub bare-coloured : (coin : List Bool → ℕ → Bool) (order : Order) (tweak : Tweak) (decoded : Circuit → List ℕ) (c : Circuit) (coins : List Bool) →
     Coloured (yaoBy coin order tweak decoded) c coins bare-keys

@@ -80,10 +80,10 @@ no-bytes = refl
 module _ {A : Type 0} (d : Drawn A) where
   pub value-size : (t : Term A block) → length (value d t) ≡ 16
   unfolding value
-  value-size (secret k) = d .secrets-size k
+  value-size (secret k) = d .secrets-block k .0
   value-size (public n) = length-digits 256 16 n
   value-size (xor t u) = bytes-size 16 (value d t) (value d u) (value-size t) (value-size u)
-  value-size (pad t) = d .hash-size (value d t .0) (value d t .1)
+  value-size (pad t) = d .hash-block (value d t .0) (value d t .1) .0
 
   value-alike : {s : Sort} {t u : Term A s} → t ≈ u → value d t ≡ value d u
   unfolding value

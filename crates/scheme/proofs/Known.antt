@@ -11,7 +11,7 @@ use Rattle.std.proofs.shelf.Elements.{all-map, all-weaker}
 use Rattle.std.proofs.shelf.Lists.{length-map}
 use Rattle.std.proofs.shelf.Tests.{cases-lt}
 use Rattle.circuit.specs.Circuit.{Circuit, wireCount}
-use Rattle.scheme.specs.Garbling.{Key, key, Row, textOf, tabulate}
+use Rattle.scheme.specs.Garbling.{Key, key, Row, textOf, tabulate, cipher}
 use Rattle.scheme.specs.Marking.{marked}
 use Rattle.scheme.specs.Opening.{Tweak}
 use Rattle.scheme.specs.Terms.{block, Term, secret, pad, Derives}
@@ -19,7 +19,7 @@ use Rattle.scheme.specs.Yao.{gateAt, rowOf, tablesHolding}
 use Rattle.scheme.proofs.Derived.{deduction, derive-text, take-off}
 use Rattle.scheme.proofs.Lists.{tabulate-member}
 use Rattle.scheme.proofs.Marked.{out-of-reach, becomes-unmarked}
-use Rattle.scheme.proofs.Reach.{closedRow, Lawful, blocksOf, marking, unmarked-key, exchange, blocks-become}
+use Rattle.scheme.proofs.Reach.{Lawful, blocksOf, marking, unmarked-key, exchange, blocks-become}
 use Rattle.scheme.proofs.Rows.{Setting, gate-wires, keys-held}
 use Rattle.scheme.proofs.Tables.{row-member}
 
@@ -39,19 +39,19 @@ module _ (tweak : Tweak) (order : ℕ → ℕ → List Bool) (c : Circuit) (on :
       rw (full .there k below cs len) at (row-member tweak c order f held k (full .place k cs) below (full .within k below cs len))
 
   -- it opens for its keys
-  pub row-opens : (k : ℕ) → k < length (c .gates) → (cs : List Bool) → length cs ≡ length (gateAt c k .wires) →
+  row-opens : (k : ℕ) → k < length (c .gates) → (cs : List Bool) → length cs ≡ length (gateAt c k .wires) →
       All Gets (zipWith key (gateAt c k .wires) cs) → Gets (key (c .inputs + k) (held k cs))
   row-opens k below cs len all =
       let keys = zipWith key (gateAt c k .wires) cs in
       let closing = textOf (map secret keys) (tweak k cs) in
       take-off have (secret (key (c .inputs + k) (held k cs))) (pad closing)
-      (deduction have .has (closedRow (rowOf tweak c k cs (held k cs))) (Memᴰ·append-right (tabulate (c .inputs) (λ w. secret (key w (act w)))) (row-there closedRow k below cs len)))
+      (deduction have .has (cipher secret (rowOf tweak c k cs (held k cs))) (Memᴰ·append-right (tabulate (c .inputs) (λ w. secret (key w (act w)))) (row-there (cipher secret) k below cs len)))
       (deduction have .hashes closing (derive-text have (map secret keys) (tweak k cs) (all-map (λ t. Derives have t) secret keys all)))
 
   input-known : (w : ℕ) → w < c .inputs → Gets (key w (act w))
   input-known w below =
       deduction have .has (secret (key w (act w)))
-      (Memᴰ·append-left (flatten (map (map closedRow) (tablesHolding tweak c order held))) (tabulate-member (λ w. secret (key w (act w))) (c .inputs) w below))
+      (Memᴰ·append-left (flatten (map (map (cipher secret)) (tablesHolding tweak c order held))) (tabulate-member (λ w. secret (key w (act w))) (c .inputs) w below))
 
   -- a gate's wire, once those before it are known
   gate-known : (k : ℕ) → k < length (c .gates) → ((w : ℕ) → w < c .inputs + k → Gets (key w (act w))) → Gets (key (c .inputs + k) (act (c .inputs + k)))

@@ -16,6 +16,7 @@ use Rattle.scheme.specs.Bytes.{xorBytes, Drawn, value}
 use Rattle.scheme.specs.Coins.{_⊕_}
 use Rattle.scheme.specs.Promises.{Plain, AllLaws}
 use Rattle.scheme.specs.Terms.{block, Term, Equal, secret, public, xor, pad, same, flip, chain, regroup, swap, unit, twice, numbers, wraps, in-xor, _≈_, sum}
+use Rattle.scheme.proofs.Bare.{drawing}
 use Rattle.scheme.proofs.Blocks.{bytes-comm, bytes-zero, digits-wrap, sound, value-size}
 use Rattle.scheme.proofs.Colours.{xor-same, xor-back, xor-past}
 use Rattle.scheme.proofs.Colours.{xor-assoc as bool-assoc}
@@ -140,16 +141,7 @@ module _ {A : Type 0} (eq : A → A → Bool) (eq-same : (k j : A) → eq k j �
       let none = chain (total-append ks ls n n) (chain (even-total (length (ks ++ ls)) (ks ++ ls) (omega arith) even (bitXor n n)) (equals (ap public (xor-self n)))) in
       chain (flip (off (total ks n) (total ls n))) (chain (in-xor none same) (chain (swap (public 0) (total ls n)) (unit (total ls n))))
 
-  -- one secret drawn as 1, or none, and all others as 0
-  abbrev drawing : (A → Bool) → Drawn A
-  drawing one =
-      record {
-        hash = λ ks ns. replicate 16 0;
-        hash-size = λ ks ns. refl;
-        secrets = λ k. replicate 15 0 ++ (bit (one k) ∷ []);
-        secrets-size = λ k. refl;
-      }
-
+  -- all secrets drawn as 0, or one of them as 1
   no-secret : (ks : List A) (n : ℕ) → value (drawing (λ k. false)) (total ks n) ≡ digits 256 16 n
   unfolding value
   no-secret [] n = refl

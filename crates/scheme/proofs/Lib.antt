@@ -3,8 +3,8 @@ mod Lists
 pub mod Marked
 pub mod Derived
 pub mod Blocks
-mod Laws
 mod Bare
+mod Laws
 mod Tables
 mod Rows
 mod Layouts

@@ -1,5 +1,5 @@
 -- Lists made place by place: what holds at each place holds side by side, and what stands at a place is a member. Assumes nothing.
-use mathlib.Core.List.{List, [], _∷_, map, map-map, flatten, Forall₂, Forall₂·nil, Forall₂·cons, List·Memᴰ, List·Memᴰ·head, List·Memᴰ·tail, List·Memᴰ·not-nil, List·Memᴰ·cases-cons, Memᴰ·append-left, Memᴰ·append-right}
+use mathlib.Core.List.{List, _∷_, map, map-map, flatten, Forall₂, Forall₂·nil, Forall₂·cons, List·Memᴰ, List·Memᴰ·head, List·Memᴰ·tail, List·Memᴰ·not-nil, List·Memᴰ·cases-cons, Memᴰ·append-left, Memᴰ·append-right}
 use mathlib.Core.Logic.{_⊎_, inl, inr}
 use mathlib.Core.Path.{_≡_, refl, sym, ap, subst, _∙_}
 use mathlib.Mathlib.Data.List.Forall2.{forall₂-eq-eq-eq}

@@ -7,7 +7,7 @@ use Prim.Native.Nat.{ℕ, zero, suc}
 use lib.ListN.{length, getD}
 use Rattle.std.specs.shelf.Lists.{All}
 use Rattle.scheme.specs.Coins.{_⊕_}
-use Rattle.scheme.specs.Marking.{Marking, tweakOf, marked, OutOfReach, Exchange, exchanged, Becomes, Carried, NotToldApart}
+use Rattle.scheme.specs.Marking.{Marking, tweakOf, marked, RespectsLaws, OutOfReach, Exchange, exchanged, Becomes, Carried, NotToldApart}
 use Rattle.scheme.specs.Terms.{Sort, block, text, Term, secret, public, xor, pad, tweak, _then_, same, flip, chain, regroup, swap, unit, twice, numbers, wraps, in-xor, in-pad, in-text, _≈_, substitute, Recipe, run}
 use Rattle.scheme.proofs.Colours.{xor-assoc, xor-comm, xor-same, xor-false}
 
@@ -20,7 +20,7 @@ same-tweak (chain e f) = same-tweak e ∙ same-tweak f
 same-tweak (in-text e f) = same-tweak f
 
 module _ {A : Type 0} (m : Marking A) where
-  pub marked-alike : {s : Sort} {t u : Term A s} → t ≈ u → marked m t ≡ marked m u
+  marked-alike : {s : Sort} {t u : Term A s} → t ≈ u → marked m t ≡ marked m u
   unfolding marked
   marked-alike same = refl
   marked-alike (flip e) = sym (marked-alike e)
@@ -50,6 +50,9 @@ module _ {A : Type 0} (m : Marking A) where
   recipe-unmarked have all (pad r) = ap (λ x. x && m .rows (tweakOf (run have r))) (recipe-unmarked have all r)
   recipe-unmarked have all (tweak ns) = refl
   recipe-unmarked have all (k then r) = ap₂ _||_ (recipe-unmarked have all k) (recipe-unmarked have all r)
+
+pub respects-laws : {A : Type 0} → RespectsLaws A
+respects-laws m s t u e = marked-alike m e
 
 pub out-of-reach : {A : Type 0} → OutOfReach A
 out-of-reach m have all s t d = sym (marked-alike m (d .1)) ∙ recipe-unmarked m have all (d .0)

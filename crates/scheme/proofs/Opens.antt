@@ -50,7 +50,7 @@ module _ (coin : List Bool → ℕ → Bool) (tweak : Tweak) (decoded : Circuit 
   held w = d .secrets (active S c xs coins w)
 
   abbrev tables : List (List (List ℕ))
-  tables = map (map (λ t. value d t)) (map (map (cipher S c coins)) (tablesBy byColour tweak c (coin coins)))
+  tables = map (map (λ t. value d t)) (map (map (cipher secret)) (tablesBy byColour tweak c (coin coins)))
 
   held-of : (n : ℕ) (ws : List ℕ) → All (λ w. w < n) ws → heldAt (tabulate n held) ws ≡ map held ws
   held-of n [] all = refl
@@ -75,14 +75,14 @@ module _ (coin : List Bool → ℕ → Bool) (tweak : Tweak) (decoded : Circuit 
     sized = length-map wires shade
 
     -- the row that the colours name
-    row-there : getD (getD tables k []) (binary colours) [] ≡ value d (cipher S c coins (rowOf tweak c k colours (heldFor c (coin coins) k colours)))
+    row-there : getD (getD tables k []) (binary colours) [] ≡ value d (cipher secret (rowOf tweak c k colours (heldFor c (coin coins) k colours)))
     row-there =
         let n = length wires in
         let small : binary colours < 2 ^ n = rw sized at (binary-lt colours) in
-        ap (λ tables. getD (getD tables k []) (binary colours) []) (map-map (map (λ t. value d t)) (map (cipher S c coins)) (tablesBy byColour tweak c (coin coins))
-        ∙ ap (λ f. map f (tablesBy byColour tweak c (coin coins))) (fun-ext (map-map (λ t. value d t) (cipher S c coins))))
-        ∙ row-entry tweak c (λ k. byColour (coin coins) (gateAt c k)) (λ r. value d (cipher S c coins r)) (heldFor c (coin coins)) k (binary colours) [] below small
-        ∙ ap (λ cs. value d (cipher S c coins (rowOf tweak c k cs (heldFor c (coin coins) k cs)))) (bits-binary n colours sized)
+        ap (λ tables. getD (getD tables k []) (binary colours) []) (map-map (map (λ t. value d t)) (map (cipher secret)) (tablesBy byColour tweak c (coin coins))
+        ∙ ap (λ f. map f (tablesBy byColour tweak c (coin coins))) (fun-ext (map-map (λ t. value d t) (cipher secret))))
+        ∙ row-entry tweak c (λ k. byColour (coin coins) (gateAt c k)) (λ r. value d (cipher secret r)) (heldFor c (coin coins)) k (binary colours) [] below small
+        ∙ ap (λ cs. value d (cipher secret (rowOf tweak c k cs (heldFor c (coin coins) k cs)))) (bits-binary n colours sized)
 
     -- its pad
     pad-there : d .hash (map held wires) (tweak k colours) ≡ value d (pad (textOf (map secret (zipWith key wires colours)) (tweak k colours)))

@@ -12,7 +12,7 @@ use Rattle.std.specs.shelf.Lists.{All}
 use Rattle.std.proofs.shelf.Tests.{true≢false, lt-ltb, ltb-true}
 use Rattle.circuit.specs.Circuit.{Circuit, wireCount}
 use Rattle.scheme.specs.Coins.{_⊕_}
-use Rattle.scheme.specs.Garbling.{Key, key, Row, textOf, tabulate, allHeld}
+use Rattle.scheme.specs.Garbling.{Key, key, Row, textOf, tabulate, allHeld, cipher}
 use Rattle.scheme.specs.Marking.{Marking, tweakOf, marked, Exchange, exchanged, Becomes}
 use Rattle.scheme.specs.Opening.{Tweak}
 use Rattle.scheme.specs.Terms.{block, text, Term, secret, xor, pad, _then_, same, chain, swap, in-xor, _≈_, Recipe, run, StaticallyEquivalent, sum}
@@ -33,10 +33,6 @@ not-and : (a b : Bool) → (not a || not b) ≡ not (a && b)
 not-and true b = refl
 not-and false b = refl
 
--- a row as it is sent
-abbrev pub closedRow : Row → Term Key block
-closedRow r = xor (secret (r .holds)) (pad (textOf (map secret (r .keys)) (r .tweak)))
-
 -- tables, and the colour of the key that is held of each wire
 module _ (tweak : Tweak) (order : ℕ → ℕ → List Bool) (c : Circuit) (on : Setting tweak order c) (act : ℕ → Bool) where
   -- the row for the keys that are held holds the key that is held
@@ -44,7 +40,7 @@ module _ (tweak : Tweak) (order : ℕ → ℕ → List Bool) (c : Circuit) (on :
   Lawful held = (k : ℕ) → k < length (c .gates) → held k (map act (gateAt c k .wires)) ≡ act (c .inputs + k)
 
   abbrev pub blocksOf : (ℕ → List Bool → Bool) → List (Term Key block)
-  blocksOf held = tabulate (c .inputs) (λ w. secret (key w (act w))) ++ flatten (map (map closedRow) (tablesHolding tweak c order held))
+  blocksOf held = tabulate (c .inputs) (λ w. secret (key w (act w))) ++ flatten (map (map (cipher secret)) (tablesHolding tweak c order held))
 
   abbrev keysFor : ℕ → List Bool → List Key
   keysFor k cs = zipWith key (gateAt c k .wires) cs
@@ -114,7 +110,7 @@ module _ (tweak : Tweak) (order : ℕ → ℕ → List Bool) (c : Circuit) (on :
       open-holds h lawful all = ap (h k) (colours-held act (gateAt c k .wires) cs len all) ∙ lawful k below
 
       -- in a row that is closed the marks cancel, and one that is open has none
-      row-unmarked : marked (marking held) (closedRow (rowOf tweak c k cs (held k cs))) ≡ false
+      row-unmarked : marked (marking held) (cipher secret (rowOf tweak c k cs (held k cs))) ≡ false
       unfolding marked
       row-unmarked =
           ap₂ (λ (b : Bool) (r : Row). mark ⊕ (b && missing (r .holds))) text-marked (text-names held) ∙ go (allHeld act (keysFor k cs)) refl
@@ -128,7 +124,7 @@ module _ (tweak : Tweak) (order : ℕ → ℕ → List Bool) (c : Circuit) (on :
 
     -- the block that stands for the pad of a closed row: with the key in it, it makes the other's row
     abbrev replaced : List ℕ → Term Key block
-    replaced ns = xor (secret (rowNamed held ns .holds)) (closedRow (rowNamed other ns))
+    replaced ns = xor (secret (rowNamed held ns .holds)) (cipher secret (rowNamed other ns))
 
     abbrev pub exchange : Exchange Key
     exchange = keeping replaced
@@ -137,7 +133,7 @@ module _ (tweak : Tweak) (order : ℕ → ℕ → List Bool) (c : Circuit) (on :
     Exchanges t u = (marked (marking held) t ≡ false) × (exchanged (marking held) exchange t ≈ u)
 
     row-becomes : (k : ℕ) → k < length (c .gates) → (cs : List Bool) → length cs ≡ length (gateAt c k .wires) →
-        Exchanges (closedRow (rowOf tweak c k cs (held k cs))) (closedRow (rowOf tweak c k cs (other k cs)))
+        Exchanges (cipher secret (rowOf tweak c k cs (held k cs))) (cipher secret (rowOf tweak c k cs (other k cs)))
     unfolding exchanged
     row-becomes k below cs len =
         (row-unmarked k below cs len, chain (equals (ap (λ (t : Term Key block). xor (secret here) t) exchanged-pad)) (go (allHeld act (keysFor k cs)) refl))
@@ -146,7 +142,7 @@ module _ (tweak : Tweak) (order : ℕ → ℕ → List Bool) (c : Circuit) (on :
         here = key (c .inputs + k) (held k cs)
 
         there : Term Key block
-        there = closedRow (rowOf tweak c k cs (other k cs))
+        there = cipher secret (rowOf tweak c k cs (other k cs))
 
         closing : Term Key block
         closing = pad (rowText k cs)
@@ -154,7 +150,7 @@ module _ (tweak : Tweak) (order : ℕ → ℕ → List Bool) (c : Circuit) (on :
         exchanged-pad : exchanged (marking held) exchange closing ≡ cond (not (allHeld act (keysFor k cs))) (xor (secret here) there) closing
         exchanged-pad =
             ap₂ (λ (b : Bool) (t : Term Key block). cond b t (pad (exchanged (marking held) exchange (rowText k cs)))) (text-marked k below cs len)
-            (ap₂ (λ (r q : Row). xor (secret (r .holds)) (closedRow q)) (text-names k below cs len held) (text-names k below cs len other))
+            (ap₂ (λ (r q : Row). xor (secret (r .holds)) (cipher secret q)) (text-names k below cs len held) (text-names k below cs len other))
             ∙ ap (λ (t : Term Key text). cond (not (allHeld act (keysFor k cs))) (xor (secret here) there) (pad t)) (keys-exchanged held replaced (keysFor k cs) (tweak k cs))
 
         go : (b : Bool) → allHeld act (keysFor k cs) ≡ b → xor (secret here) (cond (not b) (xor (secret here) there) closing) ≈ there
@@ -166,10 +162,10 @@ module _ (tweak : Tweak) (order : ℕ → ℕ → List Bool) (c : Circuit) (on :
     blocks-become =
         rel-append (tabulate (c .inputs) (λ w. secret (key w (act w)))) (tabulate (c .inputs) (λ w. secret (key w (act w))))
         (tabulate-beside Exchanges (λ w. secret (key w (act w))) (λ w. secret (key w (act w))) (c .inputs) (λ w below. (held-unmarked w (omega arith), same)))
-        (flatten (map (map closedRow) (tablesHolding tweak c order held))) (flatten (map (map closedRow) (tablesHolding tweak c order other)))
-        (rel-flatten (map (map closedRow) (tablesHolding tweak c order held)) (map (map closedRow) (tablesHolding tweak c order other))
-        (map-map-beside Exchanges closedRow closedRow
-        (tables-beside tweak c order (λ r q. Exchanges (closedRow r) (closedRow q)) held other (λ k below p. row-becomes k below (order k p) (on .complete .sized k below p)))))
+        (flatten (map (map (cipher secret)) (tablesHolding tweak c order held))) (flatten (map (map (cipher secret)) (tablesHolding tweak c order other)))
+        (rel-flatten (map (map (cipher secret)) (tablesHolding tweak c order held)) (map (map (cipher secret)) (tablesHolding tweak c order other))
+        (map-map-beside Exchanges (cipher secret) (cipher secret)
+        (tables-beside tweak c order (λ r q. Exchanges (cipher secret r) (cipher secret q)) held other (λ k below p. row-becomes k below (order k p) (on .complete .sized k below p)))))
 
   -- nobody tells apart what is sent with the one and with the other
   pub held-alike : (held other : ℕ → List Bool → Bool) → Lawful held → Lawful other → StaticallyEquivalent (blocksOf held) (blocksOf other)

@@ -13,7 +13,7 @@ use Rattle.std.proofs.shelf.Lists.{length-map}
 use Rattle.std.proofs.shelf.Tests.{true≢false, cases-lt, and-from}
 use Rattle.circuit.specs.Circuit.{Circuit, wireCount, at}
 use Rattle.scheme.specs.Coins.{_⊕_, colour}
-use Rattle.scheme.specs.Garbling.{Key, key, Row, Scheme, blocks, Seen, opened, closed, View, allHeld, look, valueKey, sent, active, view}
+use Rattle.scheme.specs.Garbling.{Key, key, Row, Scheme, blocks, Seen, opened, closed, View, allHeld, look, cipher, valueKey, sent, active, view}
 use Rattle.scheme.specs.Opening.{Tweak}
 use Rattle.scheme.specs.Promises.{Fits, Known, SeenAs, as-open, as-closed, Shows, Sees}
 use Rattle.scheme.specs.Terms.{Derives, secret}
@@ -21,7 +21,7 @@ use Rattle.scheme.specs.Yao.{gateAt, rowOf, tablesHolding, heldFor, Order, yao
 use Rattle.scheme.proofs.Colours.{xor-same}
 use Rattle.scheme.proofs.Known.{row-there, held-known, only-held}
 use Rattle.scheme.proofs.Lists.{conses, tabulate-beside, beside-map-map, equal-tabulate, member-beside, tabulate-member}
-use Rattle.scheme.proofs.Reach.{closedRow, Lawful, blocksOf}
+use Rattle.scheme.proofs.Reach.{Lawful, blocksOf}
 use Rattle.scheme.proofs.Rows.{Complete, Naming, Setting, input-value, wires-below, active-row, keys-held, looks-open, colours-held}
 use Rattle.scheme.proofs.Tables.{tables-beside}
 
@@ -52,7 +52,7 @@ module _ (coin : List Bool → ℕ → Bool) (order : Order) (tweak : Tweak) (de
 
     pub sent-is : blocks (sent S c xs coins) ≡ blocksOf tweak places c on act (heldFor c (coin coins))
     sent-is =
-        ap (λ ks. ks ++ flatten (map (map closedRow) (tablesHolding tweak c places (heldFor c (coin coins)))))
+        ap (λ ks. ks ++ flatten (map (map (cipher secret)) (tablesHolding tweak c places (heldFor c (coin coins)))))
         (equal-tabulate (λ w. secret (valueKey S c coins w (at xs w))) (λ w. secret (key w (act w))) (c .inputs) (λ w below. ap secret (key-is w below)))
 
   abbrev act : ℕ → Bool

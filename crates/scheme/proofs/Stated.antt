@@ -15,7 +15,7 @@ use Rattle.scheme.proofs.Colours.{xor-same, same-from-xor}
 use Rattle.scheme.proofs.Derived.{deduction}
 use Rattle.scheme.proofs.Laws.{all-laws}
 use Rattle.scheme.proofs.Layouts.{by-colour}
-use Rattle.scheme.proofs.Marked.{out-of-reach, carried, not-told-apart}
+use Rattle.scheme.proofs.Marked.{respects-laws, out-of-reach, carried, not-told-apart}
 use Rattle.scheme.proofs.Missed.{near-misses}
 use Rattle.scheme.proofs.Opens.{outputs-right}
 use Rattle.scheme.proofs.Schemes.{one-key-numbered, seen-by-derivation}
@@ -56,6 +56,7 @@ statement =
       sound = sound;
       all-laws = all-laws same-keys same-from-test self-test;
       deduction = deduction;
+      respects-laws = respects-laws;
       out-of-reach = out-of-reach;
       carried = carried;
       not-told-apart = not-told-apart;

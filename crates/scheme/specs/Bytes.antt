@@ -2,10 +2,11 @@
 use mathlib.Core.Bool.{Bool}
 use mathlib.Core.List.{List, [], _∷_, zipWith}
 use mathlib.Core.Path.{_≡_}
-use Prim.Native.Nat.{ℕ, _%_}
+use Prim.Native.Nat.{ℕ, _%_, _<_}
 use lib.Bits.{bitXor}
 use lib.Dec.{eqb}
 use lib.ListN.{length, getD}
+use Rattle.std.specs.shelf.Lists.{All}
 use Rattle.circuit.specs.Circuit.{Circuit}
 use Rattle.circuit.specs.Numbers.{digits}
 use Rattle.scheme.specs.Terms.{Sort, block, text, Term, secret, public, xor, pad, tweak, _then_}
@@ -21,12 +22,16 @@ colourOf k = eqb (getD k 15 0 % 2) 1
 abbrev pub Hash : Type 0
 Hash = List (List ℕ) → List ℕ → List ℕ
 
+-- sixteen bytes
+abbrev pub Block : List ℕ → Type 0
+Block bs = (length bs ≡ 16) × All (λ b. b < 256) bs
+
 -- a hash, and what was drawn
 pub record Drawn (A : Type 0) : Type 0 where
   pub hash : Hash
-  pub hash-size : (ks : List (List ℕ)) (ns : List ℕ) → length (hash ks ns) ≡ 16
+  pub hash-block : (ks : List (List ℕ)) (ns : List ℕ) → Block (hash ks ns)
   pub secrets : A → List ℕ
-  pub secrets-size : (k : A) → length (secrets k) ≡ 16
+  pub secrets-block : (k : A) → Block (secrets k)
 
 -- a block is sixteen bytes, and a text is blocks and numbers
 abbrev pub Value : Sort → Type 0

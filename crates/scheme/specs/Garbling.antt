@@ -38,7 +38,7 @@ pub record Scheme (A : Type 0) : Type 0 where
   -- how it is opened
   pub evaluate : Evaluation
 
--- all that an opener gets
+-- all that an opener gets: keys of the inputs, rows, and meanings (output decoding)
 pub record Transcript (A : Type 0) : Type 0 where
   pub keys : List (Term A block)
   pub tables : List (List (Term A block))
@@ -73,7 +73,7 @@ pub record Got (A : Type 0) : Type 0 where
   pub view : View
   pub keyBlock : Key → Term A block
 
--- keys of which one holds those of some colours, one for each wire
+-- all these keys are held, by one who holds of each wire w the key of colour `held w`
 abbrev pub allHeld : (held : ℕ → Bool) → List Key → Bool
 allHeld held [] = true
 allHeld held (k ∷ ks) = not (k .colour ⊕ held (k .wire)) && allHeld held ks
@@ -86,14 +86,14 @@ look held r = cond (allHeld held (r .keys)) (opened (r .holds)) closed
 abbrev pub seenAt : View → ℕ → ℕ → Seen → Seen
 seenAt v k p s = getD (getD (v .rows) k []) p s
 
+-- a row as it is sent: the key in it, closed with the pad over its keys and its tweak
+abbrev pub cipher : {A : Type 0} → (keyBlock : Key → Term A block) → Row → Term A block
+cipher keyBlock r = xor (keyBlock (r .holds)) (pad (textOf (map keyBlock (r .keys)) (r .tweak)))
+
 module _ {A : Type 0} (S : Scheme A) (c : Circuit) where
   -- the key of a wire's value
   abbrev pub valueKey : List Bool → ℕ → Bool → Key
   valueKey coins w v = key w (colour (S .coin c coins w) v)
-
-  -- a row as it is sent: the key in it, closed with the pad over its keys and its tweak
-  abbrev pub cipher : List Bool → Row → Term A block
-  cipher coins r = xor (S .keyBlock c coins (r .holds)) (pad (textOf (map (S .keyBlock c coins) (r .keys)) (r .tweak)))
 
   abbrev pub meanings : List Bool → List Bool
   meanings coins = map (S .coin c coins) (S .decoded c)
@@ -103,7 +103,7 @@ module _ {A : Type 0} (S : Scheme A) (c : Circuit) where
   sent xs coins =
       record {
         keys = tabulate (c .inputs) (λ w. S .keyBlock c coins (valueKey coins w (at xs w)));
-        tables = map (map (cipher coins)) (S .tables c coins);
+        tables = map (map (cipher (S .keyBlock c coins))) (S .tables c coins);
         meanings = meanings coins;
       }
 

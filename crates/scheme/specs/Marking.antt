@@ -28,6 +28,10 @@ marked m (pad t) = marked m t && m .rows (tweakOf t)
 marked m (tweak ns) = false
 marked m (k then t) = marked m k || marked m t
 
+-- equal terms are marked alike
+abbrev pub RespectsLaws : Type 0 → Type 0
+RespectsLaws A = (m : Marking A) (s : Sort) (t u : Term A s) → t ≈ u → marked m t ≡ marked m u
+
 -- no marked term is derived from terms that are not marked
 abbrev pub OutOfReach : Type 0 → Type 0
 OutOfReach A =

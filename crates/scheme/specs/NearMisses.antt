@@ -39,7 +39,7 @@ withInner c = c .outputs ++ counting (c .inputs) (length (c .gates))
 abbrev pub withInnerMeanings : Scheme Key
 withInnerMeanings = yaoBy at byColour numbered withInner
 
--- the smallest circuit with two gates: both take its one input twice, and the first gives what it is, the second 0, which is the output
+-- one input and two gates, the fewest that need numbers (`one-gate`): both take the input twice, and the first gives what it is, the second 0, the output
 abbrev pub twoGates : Circuit
 twoGates =
     record {
@@ -49,7 +49,7 @@ twoGates =
       outputs = 2 ∷ [];
     }
 
--- What an opener does with it where gates have no numbers. It has the input's key (0), the rows of the first gate (1 to 4) and of the second (5 to 8). The key
+-- What an opener does with it, for input 1 and coins 0, where gates have no numbers. It has the input's key (0), the rows of the first gate (1 to 4) and of the second (5 to 8). The key
 -- opens the last row of the second gate, which holds the same key as that gate's first row; so it has the pad of that, which is the pad of the first gate's first
 -- row too.
 abbrev pub overlaid : Recipe block
@@ -85,8 +85,8 @@ pub record NearMisses : Type 0 where
   -- with inner meanings the key that is held of a gate's wire is read as its value.
   pub meanings-tell : (c : Circuit) (xs coins : List Bool) (k : ℕ) → k < length (c .gates) →
       colour (at (meanings withInnerMeanings c coins) (length (c .outputs) + k)) (active withInnerMeanings c xs coins (c .inputs + k) .colour) ≡ at (values c xs) (c .inputs + k)
-  -- And what holds of them all the same: results do not tell a scheme without coins, without numbers or with inner meanings from the one that is meant,
+  -- What holds all the same: without coins, without numbers and with inner meanings results are right;
   pub right-too : Right withoutCoins × Right withoutNumbers × Right withInnerMeanings
-  -- nor do keys one without coins, by value or with inner meanings.
+  -- without coins, by value and with inner meanings there is one key of each wire, and what is seen is what can be derived.
   pub one-key-too : OneKey withoutCoins × OneKey rowsByValue × OneKey withInnerMeanings
   pub seen-too : SeenByDerivation withoutCoins × SeenByDerivation rowsByValue × SeenByDerivation withInnerMeanings

@@ -33,7 +33,7 @@ pub record Alike {A : Type 0} (g h : Got A) : Type 0 where
   pub view : g .view ≡ h .view
   -- every test on blocks comes out the same
   pub transcripts : StaticallyEquivalent (blocks (g .transcript)) (blocks (h .transcript))
-  -- and the same keys come out, one or several added up, with any number: so do their colours
+  -- and a recipe that gives a key, or a sum of keys and a number, from the one gives the same from the other: so the colours read off keys are the same
   pub keys : (m : Recipe block) (ks : List Key) (n : ℕ) →
       run (blocks (g .transcript)) m ≈ sum (map (g .keyBlock) ks) n ↔ run (blocks (h .transcript)) m ≈ sum (map (h .keyBlock) ks) n
   pub meanings : g .transcript .meanings ≡ h .transcript .meanings
@@ -56,6 +56,7 @@ module _ {A : Type 0} (S : Scheme A) where
   abbrev pub Coloured : Circuit → List Bool → Drawn A → Type 0
   Coloured c coins d = (k : Key) → k .wire < wireCount c → colourOf (value d (S .keyBlock c coins k)) ≡ k .colour
 
+  -- there are such keys
   abbrev pub Drawable : Type 0
   Drawable = (c : Circuit) (coins : List Bool) → (d : Drawn A) × Coloured c coins d
 
@@ -116,7 +117,7 @@ module _ {A : Type 0} (S : Scheme A) where
     pub back : List Bool → List Bool
     pub one-to-one : OneToOne (S .coins c) there back
     pub alike : (coins : List Bool) → length coins ≡ S .coins c → Alike (got S c xs coins) (got S c ys (there coins))
-    -- an input that is the same keeps its coin: so do all of the opener's own, whose values it knows
+    -- an input wire with the same value in both keeps its coin: so do all of the opener's own, where the two agree in them
     pub own : (coins : List Bool) → length coins ≡ S .coins c → (w : ℕ) → w < c .inputs → at xs w ≡ at ys w →
         S .coin c (there coins) w ≡ S .coin c coins w
 
@@ -126,7 +127,7 @@ module _ {A : Type 0} (S : Scheme A) where
 
   pub record KeepsPromises : Type 0 where
     pub right : Right
-    -- of keys that there are
+    -- and this is not said of nothing: keys with their colours as last bits exist
     pub drawable : Drawable
     pub one-key : OneKey
     pub seen : SeenByDerivation

@@ -2,7 +2,7 @@
 use mathlib.Core.List.{List}
 use Rattle.scheme.specs.Examples.{WorkedExamples}
 use Rattle.scheme.specs.Garbling.{Key, Scheme}
-use Rattle.scheme.specs.Marking.{OutOfReach, Carried, NotToldApart}
+use Rattle.scheme.specs.Marking.{RespectsLaws, OutOfReach, Carried, NotToldApart}
 use Rattle.scheme.specs.NearMisses.{NearMisses}
 use Rattle.scheme.specs.Promises.{Sound, AllLaws, Simulatable, HidesInputs, KeepsPromises}
 use Rattle.scheme.specs.Terms.{block, Term, Deduction}
@@ -20,6 +20,7 @@ pub record Statement : Type 0 where
   pub all-laws : AllLaws Key
   pub deduction : (have : List (Term Key block)) → Deduction have
   -- the argument: it is proved for any secrets, and stands here for keys
+  pub respects-laws : RespectsLaws Key
   pub out-of-reach : OutOfReach Key
   pub carried : Carried Key
   pub not-told-apart : NotToldApart Key

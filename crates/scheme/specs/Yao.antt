@@ -55,7 +55,7 @@ yaoBy coin order tweak decoded =
 abbrev pub byColour : Order
 byColour coin g p = bits (length (g .wires)) p
 
--- a row is closed with its gate's number and the number that its keys' colours write, which is its place
+-- a row is closed with its gate's number and the number that its keys' colours write, which in the order of colours is its place
 abbrev pub numbered : Tweak
 numbered k cs = k ∷ binary cs ∷ []
 

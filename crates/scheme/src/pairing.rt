@@ -113,7 +113,7 @@ fn pair_checked(
 }
 
 // The coins under which every wire has, for the second input, the colour that it has for the first under these, so that an opener
-// does not tell the two apart; or the first output in which the two differ.
+// does not tell the two apart; or the first output in which the two results differ.
 pub fn pair(
     heap: Global,
     sheet: &Sheet,
