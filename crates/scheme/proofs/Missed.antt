@@ -25,7 +25,7 @@ use Rattle.scheme.specs.Promises.{Fits, Right, OneKey, Shows, SeenByDerivation
 use Rattle.scheme.specs.Terms.{block, Term, secret, public, xor, pad, tweak, _then_, same, flip, chain, regroup, swap, unit, in-xor, _≈_, substitute, run, StaticallyEquivalent}
 use Rattle.scheme.specs.Yao.{gateAt, turned, rowOf, heldFor, byColour, numbered, outputsOnly}
 use Rattle.scheme.proofs.Bare.{bare-keys, bare-coloured, apart}
-use Rattle.scheme.proofs.Colours.{xor-same, xor-back, xor-false, same-from-xor}
+use Rattle.scheme.proofs.Colours.{xor-back, xor-false, same-from-xor}
 use Rattle.scheme.proofs.Derived.{off}
 use Rattle.scheme.proofs.Layouts.{by-colour, by-value, one-gate}
 use Rattle.scheme.proofs.Lists.{conses, all-mem}
@@ -76,29 +76,7 @@ without-coins hides =
     let come = matched withoutCoins hides .alike (false ∷ false ∷ false ∷ []) refl .keys (secret 0) (key 0 true ∷ []) 0 .0 (flip (unit one)) in
     apart nought (xor one (public 0)) (λ e. omega arith) come
 
--- in the order of values the place of the open row shows it, whatever the coins
-isOpen : Seen → Bool
-isOpen (opened k) = true
-isOpen closed = false
-
-abbrev second : View → Bool
-second v = isOpen (getD (getD (v .rows) 0 []) 1 closed)
-
-second-closed : second (view rowsByValue conjunction (true ∷ false ∷ []) (false ∷ false ∷ false ∷ [])) ≡ false
-unfolding extended zipWith digits isOpen
-second-closed = refl
-
-second-open : (coins : List Bool) → second (view rowsByValue conjunction (false ∷ true ∷ []) coins) ≡ true
-unfolding extended zipWith digits isOpen
-second-open coins = rw (xor-same (at coins 0 ⊕ false), xor-same (at coins 1 ⊕ true))
-
-rows-by-value : HidesInputs rowsByValue → ⊥
-rows-by-value hides =
-    let m = matched rowsByValue hides in
-    let none : List Bool = false ∷ false ∷ false ∷ [] in
-    true≢false (sym (second-open (m .there none)) ∙ sym (ap second (m .alike none refl .view)) ∙ second-closed)
-
--- and colours do not name rows
+-- in the order of values colours do not name rows
 by-value-wrong : Right rowsByValue → ⊥
 unfolding extended zipWith digits value bare-keys openGates
 by-value-wrong right =
@@ -106,7 +84,7 @@ by-value-wrong right =
     true≢false (sym (ap (λ bs. at bs 0) (right conjunction (true ∷ true ∷ []) (true ∷ true ∷ false ∷ []) fits bare-keys
     (bare-coloured at byValue numbered outputsOnly conjunction (true ∷ true ∷ false ∷ [])))))
 
--- in every circuit
+-- the row that opens stands at the place of the values,
 place-tells : (c : Circuit) (xs coins : List Bool) → Fits rowsByValue c xs coins → (k : ℕ) → k < length (c .gates) → (s : Seen) →
     seenAt (view rowsByValue c xs coins) k (binary (atAll (values c xs) (gateAt c k .wires))) s ≡ opened (active rowsByValue c xs coins (c .inputs + k))
 place-tells c xs coins fits k below s =
@@ -119,6 +97,24 @@ place-tells c xs coins fits k below s =
     ∙ ap (λ cs. look held (rowOf numbered c k cs (heldFor c (at coins) k cs))) colours
     ∙ looks-open held (rowOf numbered c k (map held ws) (heldFor c (at coins) k (map held ws))) ws refl
     ∙ ap (λ b. opened (key (c .inputs + k) b)) (active-row c (fits .well-formed) xs (fits .inputs) (at coins) k below)
+
+-- which shows them
+second-closed : seenAt (view rowsByValue conjunction (true ∷ false ∷ []) (false ∷ false ∷ false ∷ [])) 0 1 closed ≡ closed
+unfolding extended zipWith digits
+second-closed = refl
+
+not-both : {k : Key} → closed ≡ opened k → ⊥
+not-both e = let z : _≡_ {A = ℕ} 0 1 = cc in omega arith
+
+rows-by-value : HidesInputs rowsByValue → ⊥
+unfolding extended digits
+rows-by-value hides =
+    let m = matched rowsByValue hides in
+    let none : List Bool = false ∷ false ∷ false ∷ [] in
+    let coins = m .there none in
+    let fits : Fits rowsByValue conjunction (false ∷ true ∷ []) coins =
+    record { well-formed = conjunction-formed; inputs = refl; drawn = m .one-to-one .there-fits none refl } in
+    not-both (sym second-closed ∙ ap (λ v. seenAt v 0 1 closed) (m .alike none refl .view) ∙ place-tells conjunction (false ∷ true ∷ []) coins fits 0 (omega arith) closed)
 
 -- with inner meanings the key in an open row shows it
 one-zero : result twoGates (true ∷ []) ≡ result twoGates (false ∷ [])
