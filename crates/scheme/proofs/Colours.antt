@@ -51,7 +51,3 @@ same-from-xor true true e = refl
 same-from-xor true false e = cc
 same-from-xor false true e = cc
 same-from-xor false false e = refl
-
-pub not-not : (x : Bool) → not (not x) ≡ x
-not-not true = refl
-not-not false = refl

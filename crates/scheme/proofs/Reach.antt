@@ -1,6 +1,6 @@
 -- The marking of keys that are not held. Tables may hold what they like but where all keys of a row are held: then what is sent has no mark, and becomes, by an
 -- exchange, what is sent with other tables of that kind. Assumes nothing.
-use mathlib.Core.Bool.{Bool, true, false, cond, _||_, _&&_, not}
+use mathlib.Core.Bool.{Bool, true, false, cond, _||_, _&&_, not, Bool·not-not}
 use mathlib.Core.List.{List, [], _∷_, _++_, map, zipWith, flatten}
 use mathlib.Core.Path.{_≡_, refl, sym, ap, ap₂, _∙_}
 use mathlib.Mathlib.Data.List.Forall2.{rel-append, rel-flatten}
@@ -17,7 +17,7 @@ use Rattle.scheme.specs.Marking.{Marking, tweakOf, marked, Exchange, exchanged
 use Rattle.scheme.specs.Opening.{Tweak}
 use Rattle.scheme.specs.Terms.{block, text, Term, secret, xor, pad, _then_, same, chain, swap, in-xor, _≈_, Recipe, run, StaticallyEquivalent, sum}
 use Rattle.scheme.specs.Yao.{gateAt, rowOf, tablesHolding}
-use Rattle.scheme.proofs.Colours.{xor-same, same-from-xor, not-not}
+use Rattle.scheme.proofs.Colours.{xor-same, same-from-xor}
 use Rattle.scheme.proofs.Derived.{equals, off}
 use Rattle.scheme.proofs.Lists.{tabulate-beside, map-map-beside}
 use Rattle.scheme.proofs.Marked.{carried, not-told-apart}
@@ -77,7 +77,7 @@ module _ (tweak : Tweak) (order : ℕ → ℕ → List Bool) (c : Circuit) (on :
       marked (marking held) (textOf (map secret ks) ns) ≡ not (allHeld act ks)
   unfolding marked
   marked-text held [] ns all = refl
-  marked-text held (k ∷ ks) ns all = ap₂ _||_ (within k (all .0) ∙ sym (not-not (k .colour ⊕ act (k .wire)))) (marked-text held ks ns (all .1)) ∙ not-and (not (k .colour ⊕ act (k .wire))) (allHeld act ks)
+  marked-text held (k ∷ ks) ns all = ap₂ _||_ (within k (all .0) ∙ sym (Bool·not-not (k .colour ⊕ act (k .wire)))) (marked-text held ks ns (all .1)) ∙ not-and (not (k .colour ⊕ act (k .wire))) (allHeld act ks)
 
   -- keys stand for themselves
   abbrev keeping : (List ℕ → Term Key block) → Exchange Key

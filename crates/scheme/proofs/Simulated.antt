@@ -21,7 +21,7 @@ use Rattle.scheme.proofs.Colours.{xor-twice}
 use Rattle.scheme.proofs.Layouts.{by-colour, by-number}
 use Rattle.scheme.proofs.Lists.{conses, map-map-beside, equal-tables, equal-tabulate}
 use Rattle.scheme.proofs.Reach.{Lawful, held-alike, sums-alike}
-use Rattle.scheme.proofs.Rows.{input-value, wires-below, keys-below, colours-held}
+use Rattle.scheme.proofs.Rows.{Setting, input-value, wires-below, keys-below, colours-held}
 use Rattle.scheme.proofs.Runs.{on, lawful, key-is, sent-is}
 use Rattle.scheme.proofs.Tables.{tables-beside}
 
@@ -50,6 +50,19 @@ module _ (c : Circuit) (xs coins : List Bool) (fits : Fits yao c xs coins) where
   acts : (w : ℕ) → w < wireCount c → active yao c xs coins w .colour ≡ at colours w
   acts w below = let within : w < length coins = omega (arith, fits .drawn) in sym (colour-at coins (values c xs) w within)
 
+  abbrev set : Setting numbered places c
+  set = on at byColour numbered outputsOnly c xs coins fits (by-colour c (at coins)) (by-number c)
+
+  -- the tables that are sent, and the simulator's
+  real : Lawful numbered places c set (at colours) (heldFor c (at coins))
+  real = lawful at byColour numbered outputsOnly c xs coins fits (by-colour c (at coins)) (by-number c) (at colours) acts
+
+  abbrev one : ℕ → List Bool → Bool
+  one k cs = at colours (c .inputs + k)
+
+  fake : Lawful numbered places c set (at colours) one
+  fake k below = refl
+
   -- the outputs' coins are made from their colours and the result
   meanings-made : (ws : List ℕ) → All (λ w. w < wireCount c) ws → map (at coins) ws ≡ zipWith _⊕_ (atAll colours ws) (atAll (values c xs) ws)
   unfolding zipWith
@@ -76,31 +89,27 @@ module _ (c : Circuit) (xs coins : List Bool) (fits : Fits yao c xs coins) where
           cond b (opened (key (c .inputs + k) (heldFor c (at coins) k cs))) closed ≡ cond b (opened (key (c .inputs + k) (at colours (c .inputs + k)))) closed
       go true all =
           ap (λ b. opened (key (c .inputs + k) b))
-          (ap (heldFor c (at coins) k) (colours-held (at colours) (gateAt c k .wires) cs len all)
-          ∙ lawful at byColour numbered outputsOnly c xs coins fits (by-colour c (at coins)) (by-number c) (at colours) acts k below)
+          (ap (heldFor c (at coins) k) (colours-held (at colours) (gateAt c k .wires) cs len all) ∙ real k below)
       go false some = refl
 
   pub simulated-alike : Alike (got yao c xs coins) (simulate c colours (result c xs))
   simulated-alike =
-      let set = on at byColour numbered outputsOnly c xs coins fits (by-colour c (at coins)) (by-number c) in
       let same = meanings-made (c .outputs) (all-from-getD (λ w. w < wireCount c) (c .outputs) 0 (fits .well-formed .5)) in
       let same-key = key-is at byColour numbered outputsOnly c xs coins fits (by-colour c (at coins)) (by-number c) (at colours) acts in
       let keys = equal-tabulate (λ w. valueKey yao c coins w (at xs w)) (λ w. key w (at colours w)) (c .inputs) same-key in
       let rows =
       equal-tables (map-map-beside (λ s t. s ≡ t) (look (λ w. active yao c xs coins w .colour)) (look (at colours))
-      (tables-beside numbered c places (λ r q. look (λ w. active yao c xs coins w .colour) r ≡ look (at colours) q) (heldFor c (at coins)) (λ k cs. at colours (c .inputs + k))
+      (tables-beside numbered c places (λ r q. look (λ w. active yao c xs coins w .colour) r ≡ look (at colours) q) (heldFor c (at coins)) one
       (λ k below p. look-agrees k below (places k p) (set .complete .sized k below p)))) in
       let is = sent-is at byColour numbered outputsOnly c xs coins fits (by-colour c (at coins)) (by-number c) (at colours) acts in
       let made = blocks (simulate c colours (result c xs) .transcript) in
-      let real = lawful at byColour numbered outputsOnly c xs coins fits (by-colour c (at coins)) (by-number c) (at colours) acts in
-      let fake : Lawful numbered places c set (at colours) (λ k cs. at colours (c .inputs + k)) = λ k below. refl in
       record {
         view = λ i. record { keys = keys i; rows = rows i; meanings = same i };
-        transcripts = subst (λ l. StaticallyEquivalent l made) (sym is) (held-alike numbered places c set (at colours) (heldFor c (at coins)) (λ k cs. at colours (c .inputs + k)) real fake);
+        transcripts = subst (λ l. StaticallyEquivalent l made) (sym is) (held-alike numbered places c set (at colours) (heldFor c (at coins)) one real fake);
         keys = λ m ks n.
             subst (λ l. run l m ≈ sum (map secret ks) n ↔ run made m ≈ sum (map secret ks) n) (sym is) (
-              sums-alike numbered places c set (at colours) (heldFor c (at coins)) (λ k cs. at colours (c .inputs + k)) real fake m ks n,
-              sums-alike numbered places c set (at colours) (λ k cs. at colours (c .inputs + k)) (heldFor c (at coins)) fake real m ks n,
+              sums-alike numbered places c set (at colours) (heldFor c (at coins)) one real fake m ks n,
+              sums-alike numbered places c set (at colours) one (heldFor c (at coins)) fake real m ks n,
             );
         meanings = same;
       }
