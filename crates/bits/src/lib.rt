@@ -1,4 +1,6 @@
-// Bits as text: values, which are bytes 0 and 1, and lines of the characters 0 and 1.
+//! Bits as text: values, which are bytes 0 and 1, and lines of the characters 0 and 1.
+#![tactic(auto)]
+
 ghost use Rattle.std.specs.Prelude.{◌≡◌, ◌+◌, ◌<◌, ◌++◌, IfOk, vec_items, string_bytes, OnOk};
 ghost use Rattle.circuit.specs.Numbers.{bit as number_of};
 ghost use Rattle.circuit.specs.Refusals.{Answers};

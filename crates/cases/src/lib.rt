@@ -1,4 +1,6 @@
-// Tests of sheets and pairing, on good and on damaged texts.
+//! Tests of sheets and pairing, on good and on damaged texts.
+#![tactic(auto)]
+
 #[cfg(test)]
 mod pairs;
 #[cfg(test)]

@@ -1,4 +1,6 @@
-// Sheets, which are boolean circuits: their bytes, and what they mean.
+//! Sheets, which are boolean circuits: their bytes, and what they mean.
+#![tactic(auto)]
+
 mod bytes;
 mod gates;
 mod reading;

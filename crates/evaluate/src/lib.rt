@@ -1,4 +1,6 @@
-// stub
+//! stub
+#![tactic(auto)]
+
 pub fn nothing() -> u8 {
     0
 }

@@ -1,4 +1,6 @@
-// What a maker (garbler) sends: keys, tables and meanings.
+//! What a maker (garbler) sends: keys, tables and meanings.
+#![tactic(auto)]
+
 mod files;
 
 pub use files::Garbled;

@@ -1,4 +1,6 @@
-// Coins and keys: drawn from bytes, written to files and read again, and chosen by the notary.
+//! Coins and keys: drawn from bytes, written to files and read again, and chosen by the notary.
+#![tactic(auto)]
+
 mod files;
 mod wires;
 mod xors;

@@ -1,4 +1,6 @@
-// Prints the coins that pair those of one input with those of another, or the first output in which the two differ.
+//! Prints the coins that pair those of one input with those of another, or the first output in which the two differ.
+#![tactic(auto)]
+
 use circuit::{Failure, Refusal, Sheet};
 use scheme::Pairing;
 use std::alloc::AllocError;

@@ -1,4 +1,6 @@
-// SHA-256, and the pads that are made with it.
+//! SHA-256, and the pads that are made with it.
+#![tactic(auto)]
+
 mod compression;
 mod rows;
 mod texts;

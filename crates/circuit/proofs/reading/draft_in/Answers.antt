@@ -15,11 +15,11 @@ returns-then-not-is-empty c =
 
 pub returns : goal.returns
 returns c =
-    let g = c.in-ok-gates.ensures in
-    let o = c.in-ok-outputs.ensures in (
+    let g = c.in_ok-gates.ensures in
+    let o = c.in_ok-outputs.ensures in (
       g.0,
       o.0,
-      all_read c.args.text.now c.in-ok-head.ensures c.from-inputs.ensures g.1 c.in-ok-count.ensures c.in-ok-outputs.rest.now o.1 c.if-not-is-empty.ensures,
+      all_read c.args.text.now c.in_ok-head.ensures c.from-inputs.ensures g.1 c.in-ok-count.ensures c.in_ok-outputs.rest.now o.1 c.if-not-is-empty.ensures,
       g.2,
       o.2,
     )

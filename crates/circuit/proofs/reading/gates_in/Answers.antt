@@ -10,7 +10,7 @@ loop-i-init c = going_none gate c.args.n c.args.inputs c.args.text.now c.new-gat
 pub loop-i-preserved : goal.loop-i-preserved
 loop-i-preserved c =
     going_more gate c.args.n c.args.inputs c.args.text.now c.loop-i.i c.loop-i.gates c.push.new.self c.loop-i.rest.now
-    (is_ok c.push.result) c.loop-i-test.true c.loop-i.invariant c.in-ok-gate.ensures c.push.ensures.items c.push.ensures.len
+    (is_ok c.push.result) c.loop-i-test.true c.loop-i.invariant c.in_ok-gate.ensures c.push.ensures.items c.push.ensures.len
 
 pub returns-in-err-gate : goal.returns-in-err-gate
 returns-in-err-gate c =

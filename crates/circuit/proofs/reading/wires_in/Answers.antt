@@ -10,7 +10,7 @@ loop-i-init c = going_none (λ _. wire c.args.made) c.args.n 0 c.args.text.now c
 pub loop-i-preserved : goal.loop-i-preserved
 loop-i-preserved c =
     going_more (λ _. wire c.args.made) c.args.n 0 c.args.text.now c.loop-i.i c.loop-i.wires c.push.new.self c.loop-i.rest.now
-    (is_ok c.push.result) c.loop-i-test.true c.loop-i.invariant c.in-ok-wire.ensures c.push.ensures.items c.push.ensures.len
+    (is_ok c.push.result) c.loop-i-test.true c.loop-i.invariant c.in_ok-wire.ensures c.push.ensures.items c.push.ensures.len
 
 pub returns-in-err-wire : goal.returns-in-err-wire
 returns-in-err-wire c =

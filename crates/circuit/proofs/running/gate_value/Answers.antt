@@ -5,4 +5,4 @@ use Rattle.circuit.proofs.running.gate_value.Goals as goal
 
 pub returns : goal.returns
 returns c =
-    ap (at c.args.gives) (c.case-of.ensures ∙ rw (two_of c.args.wires.now c.requires.two))
+    ap (at c.args.gives) (c.case_of.ensures ∙ rw (two_of c.args.wires.now c.requires.two))

@@ -9,7 +9,7 @@ loop-w-preserved c =
     let known = c.args.known.now in
     let wires = c.args.wires.now in
     let i = c.loop-w.w-index in
-    pushed (at known (get_or wires i 0) ∷ []) c.loop-w.invariant c.in-ok-push.was c.push.ensures.items
+    pushed (at known (get_or wires i 0) ∷ []) c.loop-w.invariant c.in_ok-push.was c.push.ensures.items
     ∙ sym (map_more (at known) wires i 0 c.loop-w-test.true)
 
 pub returns : goal.returns

@@ -9,6 +9,6 @@ pub returns : goal.returns
 returns c =
     let gate = c.args.gate in
     let four : length gate.gives ≡ 4 = search rules in
-    let table : c.table-byte.result ≡ binary gate.gives = c.table-byte.ensures ∙ ap binary (sym (four_of gate.gives four)) in
-    pushed (c.table-byte.result ∷ []) c.in-ok-put-wires.ensures c.in-ok-push.was c.push.ensures.items
+    let table : c.table_byte.result ≡ binary gate.gives = c.table_byte.ensures ∙ ap binary (sym (four_of gate.gives four)) in
+    pushed (c.table_byte.result ∷ []) c.in_ok-put_wires.ensures c.in_ok-push.was c.push.ensures.items
     ∙ rw table (append_assoc (vec_items c.args.text.now) (flat_map (digits 256 4) gate.wires) (binary gate.gives ∷ []))

@@ -6,5 +6,5 @@ use Rattle.circuit.proofs.writing.put_half.Goals as goal
 
 pub returns : goal.returns
 returns c =
-    extended c.extend-from-slice.result (vec_items c.args.text.now) c.to-be-bytes.result (digits 256 2 c.args.n) c.extend-from-slice.ensures.items
-    (c.to-be-bytes.ensures ∙ sym (two_bytes c.args.n))
+    extended c.extend_from_slice.result (vec_items c.args.text.now) c.to_be_bytes.result (digits 256 2 c.args.n) c.extend_from_slice.ensures.items
+    (c.to_be_bytes.ensures ∙ sym (two_bytes c.args.n))
