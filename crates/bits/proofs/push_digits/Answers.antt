@@ -13,9 +13,9 @@ loop-b-preserved c =
     let bits = c.args.bits.now in
     let i = c.loop-b.b-index in
     let digit = 48 + bit (get_or bits i false) in
-    let ascii : c.digit-of.result < 128 = omega (arith, bit_le (get_or bits i false)) in
-    c.in-ok-push.ensures.bytes
-    ∙ ap (λ xs. string_bytes c.loop-b.line ++ xs) (c.push.ensures.ascii ascii ∙ ap (λ x. x ∷ []) c.digit-of.ensures)
+    let ascii : c.digit_of.result < 128 = omega (arith, bit_le (get_or bits i false)) in
+    c.in_ok-push.ensures.bytes
+    ∙ ap (λ xs. string_bytes c.loop-b.line ++ xs) (c.push.ensures.ascii ascii ∙ ap (λ x. x ∷ []) c.digit_of.ensures)
     ∙ ap (λ xs. xs ++ (digit ∷ [])) c.loop-b.invariant ∙ append_assoc (string_bytes c.args.line.now) (line_of (take i bits)) (digit ∷ [])
     ∙ ap (λ xs. string_bytes c.args.line.now ++ xs) (sym (map_more (λ b. 48 + bit b) bits i false c.loop-b-test.true))
 

@@ -12,12 +12,12 @@ loop-i-preserved c =
     going_more gate c.args.n c.args.inputs c.args.text.now c.loop-i.i c.loop-i.gates c.push.new.self c.loop-i.rest.now
     (is_ok c.push.result) c.loop-i-test.true c.loop-i.invariant c.in_ok-gate.ensures c.push.ensures.items c.push.ensures.len
 
-pub returns-in-err-gate : goal.returns-in-err-gate
-returns-in-err-gate c =
-    let p = err_from_is_err_and c.from-residual.result c.from-residual.ensures.1 in
+pub returns-in_err-gate : goal.returns-in_err-gate
+returns-in_err-gate c =
+    let p = err_from_is_err_and c.from_residual.result c.from_residual.ensures.1 in
     rw (p.1, p.2)
     (going_fault gate c.args.n c.args.inputs c.args.text.now c.loop-i.i c.loop-i.gates c.loop-i.rest.now c.loop-i-test.true c.loop-i.invariant
-    c.in-err-gate.ensures)
+    c.in_err-gate.ensures)
 
 pub returns : goal.returns
 returns c = going_all gate c.args.n c.args.inputs c.args.text.now c.loop-i.i c.loop-i.gates c.loop-i.rest.now (omega arith) c.loop-i.invariant

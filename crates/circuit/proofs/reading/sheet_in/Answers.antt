@@ -11,19 +11,19 @@ held c =
     let d = c.in_ok-head.ensures in
     whole_draft c.args.text.now c.in_ok-head.field-0.gates c.in_ok-head.field-0.outputs d.2 d.3 d.4 (omega arith) (omega arith)
 
-pub returns-in-err-head : goal.returns-in-err-head
-returns-in-err-head c =
-    let p = err_from_is_err_and c.from-residual.result c.from-residual.ensures.1 in
-    record { found = rw (p.1, p.2) c.in-err-head.ensures; laws = laws_of c.args.text.now c.type-inv.text }
+pub returns-in_err-head : goal.returns-in_err-head
+returns-in_err-head c =
+    let p = err_from_is_err_and c.from_residual.result c.from_residual.ensures.1 in
+    record { found = rw (p.1, p.2) c.in_err-head.ensures; laws = laws_of c.args.text.now c.type_inv.text }
 
 pub returns-then-len-head : goal.returns-then-len-head
-returns-then-len-head c = record { found = ap is_ok c.in_ok-head.ensures.2; laws = laws_of c.args.text.now c.ok.text }
+returns-then-len-head c = record { found = ap is_ok c.in_ok-head.ensures.2; laws = laws_of c.args.text.now c.type_inv.text }
 
-pub invariant-of-result : goal.invariant-of-result
-invariant-of-result c =
-    let d = c.in-ok-head.field-0 in
-    let good = (laws_of c.args.text.now c.type-inv.text).well_formed (assembled d.head (vec_items d.gates) (vec_items d.outputs)) (held c) in
-    (good.0, (good.1, (good.2, (good.3, (good.4, (good.5, tt))))))
+pub invariant_of-result : goal.invariant_of-result
+invariant_of-result c =
+    let d = c.in_ok-head.field-0 in
+    let good = (laws_of c.args.text.now c.type_inv.text).well_formed (assembled d.head (vec_items d.gates) (vec_items d.outputs)) (held c) in
+    record { few_inputs = good.0; opener_within = good.1; few_gates = good.2; few_outputs = good.3; gates_good = good.4; outputs_made = good.5 }
 
 pub returns : goal.returns
-returns c = record { found = held (goal.at.returns c).Else-len-count; laws = laws_of c.args.text.now c.type-inv.text }
+returns c = record { found = held (goal.at.returns c).Else-len-count; laws = laws_of c.args.text.now c.type_inv.text }

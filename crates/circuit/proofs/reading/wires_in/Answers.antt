@@ -12,12 +12,12 @@ loop-i-preserved c =
     going_more (λ _. wire c.args.made) c.args.n 0 c.args.text.now c.loop-i.i c.loop-i.wires c.push.new.self c.loop-i.rest.now
     (is_ok c.push.result) c.loop-i-test.true c.loop-i.invariant c.in_ok-wire.ensures c.push.ensures.items c.push.ensures.len
 
-pub returns-in-err-wire : goal.returns-in-err-wire
-returns-in-err-wire c =
-    let p = err_from_is_err_and c.from-residual.result c.from-residual.ensures.1 in
+pub returns-in_err-wire : goal.returns-in_err-wire
+returns-in_err-wire c =
+    let p = err_from_is_err_and c.from_residual.result c.from_residual.ensures.1 in
     rw (p.1, p.2)
     (going_fault (λ _. wire c.args.made) c.args.n 0 c.args.text.now c.loop-i.i c.loop-i.wires c.loop-i.rest.now c.loop-i-test.true c.loop-i.invariant
-    c.in-err-wire.ensures)
+    c.in_err-wire.ensures)
 
 pub returns : goal.returns
 returns c = going_all (λ _. wire c.args.made) c.args.n 0 c.args.text.now c.loop-i.i c.loop-i.wires c.loop-i.rest.now (omega arith) c.loop-i.invariant

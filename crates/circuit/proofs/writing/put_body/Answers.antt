@@ -13,5 +13,5 @@ returns c =
     six (vec_items c.args.text.now) (digits 256 2 s.inputs) (digits 256 2 s.opener) (digits 256 4 (length (vec_items s.gates))) (flat_map gate_bytes (vec_items s.gates))
     (digits 256 2 (length (vec_items s.outputs))) (flat_map (digits 256 4) (vec_items s.outputs))
     c.in_ok-put_half.ensures c.in_ok-put_half-2.ensures (rw gate-count at c.in_ok-put_word.ensures)
-    (rw c.as-slice.ensures.value at c.in-ok-put-gates.ensures) (rw output-count at c.in-ok-put-half-3.ensures)
-    (rw c.as-slice-2.ensures.value at c.in-ok-put-wires.ensures)
+    (rw c.as_slice.ensures.value at c.in_ok-put_gates.ensures) (rw output-count at c.in_ok-put_half-3.ensures)
+    (rw c.as_slice-2.ensures.value at c.in_ok-put_wires.ensures)

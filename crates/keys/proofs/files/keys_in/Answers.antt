@@ -5,7 +5,7 @@ use Rattle.keys.proofs.files.keys_in.Goals as goal
 pub loop-key-preserved : goal.loop-key-preserved
 loop-key-preserved c =
     let front = c.in-Some.ensures.cases in
-    keys_more (vec_items c.loop-key.keys) c.loop-key.rest.now c.loop-key.invariant {more = vec_items c.push.new.self} front.0 front.1 front.2 c.in-ok-push.ensures.items
+    keys_more (vec_items c.loop-key.keys) c.loop-key.rest.now c.loop-key.invariant {more = vec_items c.push.new.self} front.0 front.1 front.2 c.in_ok-push.ensures.items
 
 pub returns : goal.returns
 returns c = keys_all (vec_items c.loop-key.keys) c.loop-key.rest.now c.loop-key.invariant c.in-default.ensures.cases

@@ -7,7 +7,7 @@ pub returns : goal.returns
 unfolding compressed
 returns c =
     c.sums.ensures ∙ ap (λ s. sums s c.args.state)
-    (all_rounds c.args.block c.args.state c.following-all-second.result c.following-all-third.result c.following-all-fourth.result _ _ _ _
+    (all_rounds c.args.block c.args.state c.following_all-second.result c.following_all-third.result c.following_all-fourth.result _ _ _ _
     (search rules) (search rules) (search rules)
-    c.following-all-second.ensures c.following-all-third.ensures c.following-all-fourth.ensures
-    c.sixteen-rounds-a.ensures c.sixteen-rounds-b.ensures c.sixteen-rounds-c.ensures c.sixteen-rounds-d.ensures)
+    c.following_all-second.ensures c.following_all-third.ensures c.following_all-fourth.ensures
+    c.sixteen_rounds-a.ensures c.sixteen_rounds-b.ensures c.sixteen_rounds-c.ensures c.sixteen_rounds-d.ensures)

@@ -5,5 +5,5 @@ use Rattle.sha256.proofs.rows.row_block.Goals as goal
 pub returns : goal.returns
 returns c =
     simp c.from.ensures
-    (row_digest c.args.left c.args.right c.key-words-l.result c.key-words-r.result c.args.gate c.args.place
-    (search rules) (search rules) (search rules) c.key-words-l.ensures c.key-words-r.ensures)
+    (row_digest c.args.left c.args.right c.key_words-l.result c.key_words-r.result c.args.gate c.args.place
+    (search rules) (search rules) (search rules) c.key_words-l.ensures c.key_words-r.ensures)

@@ -7,7 +7,7 @@ pub loop-block-preserved : goal.loop-block-preserved
 loop-block-preserved c =
     let found = c.in-Some.ensures.cases in (
       value_more (length c.args.text.now) c.loop-block.state c.loop-block.rest.now c.in-Some.after.now c.compress-next.result
-          (omega arith) found.1 (c.compress-next.ensures ∙ ap (λ b. compressed c.loop-block.state b) (c.words-of.ensures ∙ ap words found.0))
+          (omega arith) found.1 (c.compress-next.ensures ∙ ap (λ b. compressed c.loop-block.state b) (c.words_of.ensures ∙ ap words found.0))
           ∙ c.loop-block.invariant.0,
       omega arith,
     )
