@@ -8,7 +8,7 @@ use Rattle.scheme.specs.Coins.{coins_of_pair}
 use Rattle.scheme.specs.Outcome.{paired, differ, by_difference, pairing, SameResult}
 use Rattle.scheme.specs.Results.{first_differing, Differs}
 use Rattle.scheme.proofs.Differences.{no_difference, difference}
-use Rattle.scheme.proofs.Hidden.{paired_alike}
+use Rattle.scheme.proofs.Hiding.{paired_alike}
 use Rattle.scheme.proofs.Pairs.{pairs, kept_outputs}
 
 pub values_are : (c : Circuit) (xs known : List Bool) → length xs ≡ c.inputs → values_for c xs ≡ Ok known → known ≡ values c xs

@@ -18,6 +18,6 @@ mod Missed
 mod Worked
 pub mod Stated
 pub mod Pairs
-mod Hidden
+mod Hiding
 mod Differences
 mod Answered

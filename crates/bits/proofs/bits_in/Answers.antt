@@ -9,10 +9,10 @@ loop-b-preserved c =
     reading_more c.args.base c.args.text.now c.loop-b.b-index c.loop-b.bits c.push.new.self (is_ok c.push.result) c.loop-b-test.true c.loop-b.invariant
     c.in-Some.ensures c.push.ensures.items c.push.ensures.len
 
-pub returns-in-default : goal.returns-in-default
-returns-in-default c =
+pub returns-in_default : goal.returns-in_default
+returns-in_default c =
     reading_fault c.args.base c.args.text.now c.args.count c.args.refusal c.loop-b.b-index c.loop-b.bits c.loop-b-test.true c.loop-b.invariant
-    c.in-default.ensures
+    c.in_default.ensures
 
 pub returns-then-len-count : goal.returns-then-len-count
 returns-then-len-count c =

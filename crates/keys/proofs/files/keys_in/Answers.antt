@@ -8,4 +8,4 @@ loop-key-preserved c =
     keys_more (vec_items c.loop-key.keys) c.loop-key.rest.now c.loop-key.invariant {more = vec_items c.push.new.self} front.0 front.1 front.2 c.in_ok-push.ensures.items
 
 pub returns : goal.returns
-returns c = keys_all (vec_items c.loop-key.keys) c.loop-key.rest.now c.loop-key.invariant c.in-default.ensures.cases
+returns c = keys_all (vec_items c.loop-key.keys) c.loop-key.rest.now c.loop-key.invariant c.in_default.ensures.cases

@@ -37,8 +37,8 @@ returns c =
     let s = c.args.sheet.now in
     let at = (goal.at.returns c).After-first_difference in
     let coins =
-    c.in_ok-paired_coins.ensures
+    c.in_ok-paired_coins-in-None.ensures
     ∙ ap₂ (paired_by c.args.coins.now) (c.as_slice-in-None.ensures.value ∙ before-is at) (c.as_slice-in-None-2.ensures.value ∙ after_is at) in
     let both = paired_answer (circuit_of s) c.args.first.now c.args.second.now c.args.coins.now (well_formed s) c.requires.first_fits c.requires.second_fits
-    (coins_fit at) (vec_items c.in_ok-paired_coins.field-0) (sym c.in-None.is ∙ difference-is at) coins in
+    (coins_fit at) (vec_items c.in_ok-paired_coins-in-None.field-0) (sym c.in-None.is ∙ difference-is at) coins in
     record { answer = both.0; meaning = both.1 }
