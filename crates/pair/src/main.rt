@@ -6,6 +6,7 @@ use scheme::Pairing;
 use std::alloc::AllocError;
 use std::fs::File;
 use std::io::Read;
+use std::process::ExitCode;
 use std::{env, fmt, io};
 
 const HELP: &str = "usage: pair SHEET FIRST SECOND COINS
@@ -135,10 +136,12 @@ fn run(rt: &HostRuntime) -> Result<(), Stop> {
     }
 }
 
-fn main(rt: HostRuntime) -> Result<(), Stop> {
-    let ended = run(&rt);
-    if let Err(stop) = &ended {
-        let _ = eprintln!(rt; "{stop}");
+fn main(rt: HostRuntime) -> ExitCode {
+    match run(&rt) {
+        Ok(()) => ExitCode::SUCCESS,
+        Err(stop) => {
+            let _ = eprintln!(rt; "{stop}");
+            ExitCode::FAILURE
+        }
     }
-    ended
 }
