@@ -175,3 +175,52 @@ module _ (c : Circuit) (good : WellFormed c) (xs : List Bool) (fit : length xs �
 
       all_back : (t : List ℕ) → maker's_hash c xs (tape_for c xs bytes) (simulated_hash c xs bytes h) t ≡ h t
       all_back = subst (λ f. (t : List ℕ) → maker's_hash c xs (tape_for c xs bytes) f t ≡ h t) (sym hash_is) there_back
+
+  -- where no keys can be drawn, the simulator makes nothing either
+  module _ (bytes : List ℕ) (n : ℕ) (is : drawn (wire_count c) bytes ≡ Err n) (h : TextHash) where
+    none_too : drawn (wire_count c) (tape_for c xs bytes) ≡ Err n
+    none_too = tape_drawn bytes ∙ then_err (λ ws. Ok (tape_wires c xs ws)) is
+
+    simulated_stays : simulated_hash c xs bytes h ≡ h
+    simulated_stays = ap (exchanged_by c (held_at c) (λ ws. fake_held c (tape_wires c xs ws)) h) is
+
+    none_made : simulated c (simulated_hash c xs bytes h) (result c xs) (tape_for c xs bytes) ≡ received h c xs bytes
+    none_made =
+        then_err (λ us. Ok (simulated_files c (simulated_hash c xs bytes h) (result c xs) us)) none_too
+        ∙ sym (refused_by c n h xs bytes fit is)
+
+    none_back : (t : List ℕ) → maker's_hash c xs (tape_for c xs bytes) (simulated_hash c xs bytes h) t ≡ h t
+    none_back t =
+        ap (λ a. exchanged_by c (fake_held c) (λ ws. held_at c (tape_wires c xs ws)) (simulated_hash c xs bytes h) a t) none_too
+        ∙ ap (λ (f : TextHash). f t) simulated_stays
+
+    none_there : (t : List ℕ) → simulated_hash c xs (tape_for c xs bytes) (maker's_hash c xs bytes h) t ≡ h t
+    none_there t =
+        ap (λ a. exchanged_by c (held_at c) (λ ws. fake_held c (tape_wires c xs ws)) (maker's_hash c xs bytes h) a t) none_too
+        ∙ ap (λ (a : Answer (List WireKeys)). exchanged_by c (fake_held c) (λ ws. held_at c (tape_wires c xs ws)) h a t) is
+
+  module _ (bytes : List ℕ) (small : Bytes bytes) (h : TextHash) (hashed : BlockHash h) where
+    abbrev Told : Type 0
+    Told =
+        BlockHash (simulated_hash c xs bytes h) × (simulated c (simulated_hash c xs bytes h) (result c xs) (tape_for c xs bytes) ≡ received h c xs bytes)
+        × ((t : List ℕ) → maker's_hash c xs (tape_for c xs bytes) (simulated_hash c xs bytes h) t ≡ h t)
+        × ((t : List ℕ) → simulated_hash c xs (tape_for c xs bytes) (maker's_hash c xs bytes h) t ≡ h t)
+
+    told : (a : Answer (List WireKeys)) → drawn (wire_count c) bytes ≡ a → Told
+    told (Ok ws) is = (hash_blocks bytes small ws is h hashed, all_made bytes small ws is h hashed, all_back bytes small ws is h hashed, back_there bytes small ws is h hashed)
+    told (Err n) is = (subst BlockHash (sym (simulated_stays bytes n is h)) hashed, none_made bytes n is h, none_back bytes n is h, none_there bytes n is h)
+
+    pub simulates : Simulates c xs bytes h
+    simulates =
+        let here = told (drawn (wire_count c) bytes) refl in
+        record {
+          hashed = here.0;
+          received = here.1;
+          size = recoined_size (values c xs) [] bytes;
+          small = recoined_small (values c xs) [] bytes small;
+          tape_back = tape_back bytes;
+          hash_back = here.2;
+          hash_there = here.3;
+          elsewhere = λ ws is. only_closed bytes small ws is h hashed;
+          concluded = λ ws is o never. concluded c xs ws h (simulated_hash c xs bytes h) (only_closed bytes small ws is h hashed) o never;
+        }
