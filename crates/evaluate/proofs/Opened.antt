@@ -2,7 +2,7 @@
 use Rattle.std.proofs.Common.{◌≡◌, ℕ, zero, suc, ◌+◌, ◌-◌, ◌^◌, ◌<◌, ◌≤◌, Bool, true, false, List, [], ◌∷◌, ◌++◌, map, length, get_or, take, drop, Ok, Err, sym, refl, ap, ◌∙◌, subst, ap₂, arith}
 use mathlib.Core.List.{zip_with}
 use lib.Bits.{bit_xor, xor_lt}
-use Rattle.std.specs.List.{range_with_len, AllByRecursion as All}
+use Rattle.std.specs.List.{range_with_len, AllByRecursion}
 use Rattle.std.proofs.lemmas.List.FromFn.{length-map-range_with_len}
 use Rattle.std.proofs.ByRecursion.{All-map, All-weaker}
 use Rattle.std.proofs.lemmas.List.{get_or-take, length-map, length-take-le, take-append-drop}
@@ -35,12 +35,12 @@ pub xor_block : (a b : List ℕ) → Block a → Block b → Block (xor_bytes a 
 unfolding zip_with
 xor_block a b a_Block b-block = (bytes_size 16 a b a_Block.0 b-block.0, small a b a_Block.1 b-block.1)
   where
-    small : (a b : List ℕ) → All (λ x. x < 256) a → All (λ x. x < 256) b → All (λ x. x < 256) (xor_bytes a b)
+    small : (a b : List ℕ) → AllByRecursion (λ x. x < 256) a → AllByRecursion (λ x. x < 256) b → AllByRecursion (λ x. x < 256) (xor_bytes a b)
     small [] b p q = tt
     small (x ∷ a) [] p q = tt
     small (x ∷ a) (y ∷ b) p q = (xor_lt 8 x y p.0 q.0, small a b p.1 q.1)
 
-all_counted : {X : Type 0} (P : X → Type 0) (f : ℕ → X) (a n : ℕ) → ((i : ℕ) → i < n → P (f (a + i))) → All P (map f (range_with_len a n))
+all_counted : {X : Type 0} (P : X → Type 0) (f : ℕ → X) (a n : ℕ) → ((i : ℕ) → i < n → P (f (a + i))) → AllByRecursion P (map f (range_with_len a n))
 all_counted P f a zero each = tt
 all_counted P f a (suc n) each =
     let z : a + 0 ≡ a = omega arith in
@@ -65,7 +65,7 @@ module _ (h : TextHash) (hashed : BlockHash h) (c : Circuit) (good : WellFormed 
   row_block : (r : Row) → Block (closed_row h ws r)
   row_block r = xor_block (key_of ws r.holds) (pad_by h (map (key_of ws) r.keys) r.tweak) (lawful.blocks r.holds) (d.hash_block (map (key_of ws) r.keys) r.tweak)
 
-  rows_block : (rs : List Row) → All Block (map (closed_row h ws) rs)
+  rows_block : (rs : List Row) → AllByRecursion Block (map (closed_row h ws) rs)
   rows_block [] = tt
   rows_block (r ∷ rs) = (row_block r, rows_block rs)
 
@@ -78,10 +78,10 @@ module _ (h : TextHash) (hashed : BlockHash h) (c : Circuit) (good : WellFormed 
       ∙ length-map-range_with_len (λ p. row_of numbered c k (by_colour (at coins) (gate_at c k) p) (held_for c (at coins) k (by_colour (at coins) (gate_at c k) p))) 0 (2 ^ length (gate_at c k).wires)
       ∙ ap (λ n. 2 ^ n) (good.4 k below).0
 
-  tables_good : All (λ t. (length t ≡ 4) × All Block t) tables
+  tables_good : AllByRecursion (λ t. (length t ≡ 4) × AllByRecursion Block t) tables
   tables_good =
-      All-map (λ (t : List (List ℕ)). (length t ≡ 4) × All Block t) (map (closed_row h ws)) (yao.tables c coins)
-      (all_counted (λ (rs : List Row). (length (map (closed_row h ws) rs) ≡ 4) × All Block (map (closed_row h ws) rs)) rows_of 0 (length c.gates) (λ k below.
+      All-map (λ (t : List (List ℕ)). (length t ≡ 4) × AllByRecursion Block t) (map (closed_row h ws)) (yao.tables c coins)
+      (all_counted (λ (rs : List Row). (length (map (closed_row h ws) rs) ≡ 4) × AllByRecursion Block (map (closed_row h ws) rs)) rows_of 0 (length c.gates) (λ k below.
       (four_rows (0 + k) (omega arith), rows_block (rows_of (0 + k)))))
 
   tables_size : length tables ≡ length c.gates

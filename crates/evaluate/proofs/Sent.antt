@@ -2,7 +2,7 @@
 use Rattle.std.proofs.Common.{◌≡◌, ℕ, zero, suc, ◌+◌, ◌-◌, ◌*◌, ◌/◌, ◌<◌, ◌≤◌, Bool, true, false, eqb, List, [], ◌∷◌, ◌++◌, map, length, get_or, take, drop, Ok, Err, sym, refl, ap, ◌∙◌, ap₂, add-zero, arith}
 use mathlib.Core.List.{map-map}
 use mathlib.Core.Path.{fun_ext}
-use Rattle.std.specs.List.{range_with_len, flat_map, AllByRecursion as All}
+use Rattle.std.specs.List.{range_with_len, flat_map, AllByRecursion}
 use Rattle.std.proofs.lemmas.List.FromFn.{length-map-range_with_len, get_or-map-range_with_len, take-map-range_with_len}
 use Rattle.std.proofs.ByRecursion.{All-from_get_or}
 use Rattle.std.proofs.lemmas.List.{ext_get_or, get_or-drop, length-drop, length-take-le}
@@ -58,7 +58,7 @@ drop_tabulate f n o d within =
 
 -- all keys of these are sixteen bytes
 module _ (c : Circuit) (good : WellFormed c) (ws : List WireKeys) (keyed : (k : Key) → Block (key_of ws k)) where
-  pairs_blocks : (a n : ℕ) → All Block (flat_map (λ w. key_for c ws w false ∷ key_for c ws w true ∷ []) (range_with_len a n))
+  pairs_blocks : (a n : ℕ) → AllByRecursion Block (flat_map (λ w. key_for c ws w false ∷ key_for c ws w true ∷ []) (range_with_len a n))
   pairs_blocks a zero = tt
   pairs_blocks a (suc n) = (keyed (value_key yao c (coins_of ws) a false), (keyed (value_key yao c (coins_of ws) a true), pairs_blocks (a + 1) n))
 

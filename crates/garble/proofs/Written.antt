@@ -1,6 +1,6 @@
 -- Tables and meanings that are written are read back. Assumes nothing.
 use Rattle.std.proofs.Common.{◌≡◌, ℕ, zero, suc, ◌+◌, ◌*◌, ◌/◌, ◌^◌, ◌<◌, ◌≤◌, Bool, true, false, ◌⊎◌, List, [], ◌∷◌, ◌++◌, map, length, get_or, take, drop, Ok, sym, refl, ap, ◌∙◌, inl, inr, append_assoc, arith}
-use Rattle.std.specs.List.{range_with_len, flat_map, AllByRecursion as All}
+use Rattle.std.specs.List.{range_with_len, flat_map, AllByRecursion}
 use Rattle.std.proofs.lemmas.List.FromFn.{length-map-range_with_len, get_or-map-range_with_len, take-map-range_with_len, fill_by_all}
 use Rattle.std.proofs.ByRecursion.{All-from_get_or}
 use Rattle.std.proofs.lemmas.List.{append-nil, drop_at, get_or-drop, get_or_past, length-append, take_at}
@@ -18,7 +18,7 @@ use Rattle.garble.specs.Formats.{table_bytes, tables_file, table, parse_tables, 
 use Rattle.garble.proofs.Counts.{in_pieces}
 
 -- keys with something behind them
-sixteens_before : (ks : List (List ℕ)) (rest : List ℕ) → All Block ks → sixteens (length ks) (flat_map (λ k. k) ks ++ rest) ≡ ks
+sixteens_before : (ks : List (List ℕ)) (rest : List ℕ) → AllByRecursion Block ks → sixteens (length ks) (flat_map (λ k. k) ks ++ rest) ≡ ks
 unfolding sixteens
 sixteens_before [] rest blocks = refl
 sixteens_before (k ∷ ks) rest blocks =
@@ -26,7 +26,7 @@ sixteens_before (k ∷ ks) rest blocks =
     let size : length k ≡ 16 = blocks.0.0 in
     rw (append_assoc k (flat_map (λ k. k) ks) rest, take_at k behind 16 size, drop_at k behind 16 size, sixteens_before ks rest blocks.1)
 
-table_back : (k : ℕ) (t : List (List ℕ)) (rest : List ℕ) → k < 256 ^ 4 → length t ≡ 4 → All Block t → table k (table_bytes k t ++ rest) ≡ Ok (t, rest)
+table_back : (k : ℕ) (t : List (List ℕ)) (rest : List ℕ) → k < 256 ^ 4 → length t ≡ 4 → AllByRecursion Block t → table k (table_bytes k t ++ rest) ≡ Ok (t, rest)
 table_back k t rest small four blocks =
     let number = digits 256 4 k in
     let rows = flat_map (λ r. r) t in
@@ -49,7 +49,7 @@ table_back k t rest small four blocks =
 
 -- tables of four rows
 abbrev pub Four : List (List (List ℕ)) → Type 0
-Four ts = All (λ t. (length t ≡ 4) × All Block t) ts
+Four ts = AllByRecursion (λ t. (length t ≡ 4) × AllByRecursion Block t) ts
 
 tables_before : (ts : List (List (List ℕ))) (k : ℕ) (rest : List ℕ) → Four ts → k + length ts ≤ 65536 → many table (length ts) k (tables_file k ts ++ rest) ≡ Ok (ts, rest)
 unfolding many tables_file
@@ -59,7 +59,7 @@ tables_before (t ∷ ts) k rest four few =
     ap (many table (suc (length ts)) k) (append_assoc (table_bytes k t) (tables_file (k + 1) ts) rest)
     ∙ then_is _ (table_back k t behind (omega arith) four.0.0 four.0.1) ∙ then_is _ (tables_before ts (k + 1) rest four.1 (omega arith))
 
-pub tables_back : (ts : List (List (List ℕ))) → All (λ t. (length t ≡ 4) × All Block t) ts → length ts ≤ 65536 → parse_tables (length ts) (tables_file 0 ts) ≡ Ok ts
+pub tables_back : (ts : List (List (List ℕ))) → AllByRecursion (λ t. (length t ≡ 4) × AllByRecursion Block t) ts → length ts ≤ 65536 → parse_tables (length ts) (tables_file 0 ts) ≡ Ok ts
 tables_back ts four few =
     then_is _ (ap (many table (length ts) 0) (sym (append-nil (tables_file 0 ts))) ∙ tables_before ts 0 [] four (omega arith))
 
@@ -74,7 +74,7 @@ unpacked_packed ms = each 0 ((length ms + 7) / 8) ∙ in_pieces (at ms) 8 0 ((le
     each a zero = refl
     each a (suc m) = rw (bits_binary 8 (piece a) refl, each (a + 1) m)
 
-none_set_all : (ms : List Bool) → All (λ b. b ≡ false) ms → none_set ms ≡ true
+none_set_all : (ms : List Bool) → AllByRecursion (λ b. b ≡ false) ms → none_set ms ≡ true
 unfolding none_set
 none_set_all [] all = refl
 none_set_all (m ∷ ms) all = rw all.0 (none_set_all ms all.1)

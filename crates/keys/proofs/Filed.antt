@@ -1,6 +1,6 @@
 -- Files of keys: what is written is read back, and what is accepted is the one text that writes its keys. Assumes nothing.
 use Rattle.std.proofs.Common.{◌≡◌, ℕ, zero, suc, ◌+◌, ◌*◌, ◌/◌, ◌%◌, ◌<◌, ◌≤◌, true, cond, ◌&&◌, eqb, leb, List, [], ◌∷◌, ◌++◌, length, get_or, take, drop, Ok, sym, refl, ap, ◌∙◌, append_assoc, arith, w8, Fits}
-use Rattle.std.specs.List.{flat_map, AllByRecursion as All}
+use Rattle.std.specs.List.{flat_map, AllByRecursion}
 use Rattle.std.specs.Int.Digits.{number_from_digits}
 use Rattle.std.proofs.ByRecursion.{All-take, All-drop, All-from_get_or, All-weaker}
 use Rattle.std.proofs.lemmas.List.{append-nil, drop_at, length-append, length-drop, length-take-le, nil_from_length, take-append-drop, take_at}
@@ -18,9 +18,9 @@ use Rattle.keys.specs.Promises.{Accepts}
 
 -- sixteen bytes each
 abbrev pub Whole : List (List ℕ) → Type 0
-Whole ks = All (λ k. length k ≡ 16) ks
+Whole ks = AllByRecursion (λ k. length k ≡ 16) ks
 
-pub whole_blocks : (ks : List (List ℕ)) → All Block ks → Whole ks
+pub whole_blocks : (ks : List (List ℕ)) → AllByRecursion Block ks → Whole ks
 whole_blocks ks blocks = All-weaker Block (λ k. length k ≡ 16) (λ k block. block.0) ks blocks
 
 -- keys one after the other
@@ -46,7 +46,7 @@ joined_sixteens zero xs size = sym (nil_from_length xs size)
 joined_sixteens (suc n) xs size =
     ap (λ r. take 16 xs ++ r) (joined_sixteens n (drop 16 xs) (omega (arith, length-drop 16 xs))) ∙ take-append-drop 16 xs
 
-pub blocks_sixteens : (n : ℕ) (xs : List ℕ) → 16 * n ≤ length xs → Bytes xs → All Block (sixteens n xs)
+pub blocks_sixteens : (n : ℕ) (xs : List ℕ) → 16 * n ≤ length xs → Bytes xs → AllByRecursion Block (sixteens n xs)
 unfolding sixteens
 blocks_sixteens zero xs long bytes = tt
 blocks_sixteens (suc n) xs long bytes = (
@@ -93,11 +93,11 @@ module _ (ks : List (List ℕ)) (few : length ks ≤ most_keys) where
 pub whole_back : (n : ℕ) (ks : List (List ℕ)) → length ks ≡ n → n ≤ most_keys → Whole ks → keys_for n (keys_file ks) ≡ Ok ks
 whole_back n ks size few whole = then_is _ (file_back ks (omega arith) whole) ∙ rw (eq-eqb (length ks) n size)
 
-pub keys_are_back : (n : ℕ) (ks : List (List ℕ)) → length ks ≡ n → n ≤ most_keys → All Block ks → keys_for n (keys_file ks) ≡ Ok ks
+pub keys_are_back : (n : ℕ) (ks : List (List ℕ)) → length ks ≡ n → n ≤ most_keys → AllByRecursion Block ks → keys_for n (keys_file ks) ≡ Ok ks
 keys_are_back n ks size few blocks = whole_back n ks size few (whole_blocks ks blocks)
 
 accepted_at : (text : List ℕ) → Bytes text → eqb (get_or text 0 0) 2 ≡ true → length text ≡ 3 + 16 * key_count text →
-    let ks = sixteens (key_count text) (drop 3 text) in All Block ks × (keys_file ks ≡ text)
+    let ks = sixteens (key_count text) (drop 3 text) in AllByRecursion Block ks × (keys_file ks ≡ text)
 accepted_at [] bytes kind size = absurd (omega arith)
 accepted_at (a ∷ []) bytes kind size = absurd (omega arith)
 accepted_at (a ∷ b ∷ []) bytes kind size = absurd (omega arith)
@@ -109,7 +109,7 @@ accepted_at (a ∷ b ∷ c ∷ xs) bytes kind size =
     (blocks_sixteens n xs (omega arith) bytes.1.1.1, rw (length_sixteens n xs, count, joined_sixteens n xs rest, is))
 
 -- what is accepted is blocks, and the text is the one that writes them
-pub file_accepted : (text : List ℕ) (ks : List (List ℕ)) → Bytes text → parse_keys text ≡ Ok ks → All Block ks × (keys_file ks ≡ text)
+pub file_accepted : (text : List ℕ) (ks : List (List ℕ)) → Bytes text → parse_keys text ≡ Ok ks → AllByRecursion Block ks × (keys_file ks ≡ text)
 file_accepted text ks bytes e =
     let whole = eqb (get_or text 0 0) 2 && eqb (length text) (3 + 16 * key_count text) in
     let found = Ok (sixteens (key_count text) (drop 3 text)) in
@@ -119,7 +119,7 @@ file_accepted text ks bytes e =
     let same : ks ≡ sixteens (key_count text) (drop 3 text) = cc b.1 in
     rw same (accepted_at text bytes parts.0 (eqb-true (length text) (3 + 16 * key_count text) parts.1))
 
-pub keys_accepted : (n : ℕ) (text : List ℕ) (ks : List (List ℕ)) → Bytes text → keys_for n text ≡ Ok ks → (length ks ≡ n) × All Block ks × (keys_file ks ≡ text)
+pub keys_accepted : (n : ℕ) (text : List ℕ) (ks : List (List ℕ)) → Bytes text → keys_for n text ≡ Ok ks → (length ks ≡ n) × AllByRecursion Block ks × (keys_file ks ≡ text)
 keys_accepted n text ks bytes e =
     then_ok (parse_keys text) _ e (λ js came e.
     let t = cond_ok {y = ks} (eqb (length js) n) (Ok js) (number_of Values) e in

@@ -1,7 +1,7 @@
 -- Coins and keys from drawn bytes (a random tape), and what is true of them. Assumes nothing.
 use Rattle.std.specs.Prelude.{◌≡◌, ℕ, zero, suc, ◌+◌, ◌*◌, ◌/◌, ◌%◌, ◌<◌, ◌≤◌, Bool, true, false, cond, ◌||◌, List, [], ◌∷◌, map, length, take, drop, replicate, Ok, Err, ◌==◌, nat_le, slice_index, slice_index_or, slice_set}
 use Rattle.std.specs.Int.Digits.{number_from_digits}
-use Rattle.std.specs.List.{AllByRecursion as All}
+use Rattle.std.specs.List.{AllByRecursion}
 use Rattle.circuit.specs.Format.{Part}
 use Rattle.circuit.specs.Numbers.{bit}
 use Rattle.circuit.specs.Refusals.{Answer, ◌and_then◌}
@@ -10,7 +10,7 @@ use Rattle.scheme.specs.Garbling.{Key}
 use Rattle.keys.specs.declared.wires.WireKeys.{WireKeys}
 
 abbrev pub Bytes : List ℕ → Type 0
-Bytes xs = All (λ b. b < 256) xs
+Bytes xs = AllByRecursion (λ b. b < 256) xs
 
 -- the 127 bits of a key before its colour, as a number
 abbrev pub stem : List ℕ → ℕ

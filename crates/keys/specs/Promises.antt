@@ -1,6 +1,6 @@
 -- What the calls of this crate promise of their answers. Assumes nothing.
 use Rattle.std.specs.Prelude.{◌≡◌, ℕ, ◌*◌, ◌≤◌, Bool, List, length, Ok, Err, vec_items, Result, Vec}
-use Rattle.std.specs.List.{AllByRecursion as All}
+use Rattle.std.specs.List.{AllByRecursion}
 use Rattle.std.specs.declared.alloc.Global.{Global}
 use Rattle.circuit.specs.Refusals.{Answer, Answers}
 use Rattle.circuit.specs.declared.refusals.Failure.{Failure}
@@ -15,7 +15,7 @@ pub record Writes (ks : List (List ℕ)) (r : Result (Vec ℕ Global) Failure) :
 
 -- what a text is accepted as is as many keys as are told, and the text is the one that writes them
 pub record Accepts (count : ℕ) (text : List ℕ) : Type 0 where
-  pub well_formed : (ks : List (List ℕ)) → keys_for count text ≡ Ok ks → (length ks ≡ count) × All Block ks
+  pub well_formed : (ks : List (List ℕ)) → keys_for count text ≡ Ok ks → (length ks ≡ count) × AllByRecursion Block ks
   pub one_text : (ks : List (List ℕ)) → keys_for count text ≡ Ok ks → keys_file ks ≡ text
 
 -- keys read from a text

@@ -2,7 +2,7 @@
 use Rattle.std.proofs.Common.{◌≡◌, ℕ, zero, suc, ◌+◌, ◌^◌, ◌<◌, Bool, true, false, cond, not, ◌&&◌, ltb, ◌⊎◌, List, [], ◌∷◌, map, length, get_or, replicate, sym, refl, ap, ◌∙◌, subst, ap₂, inl, inr, arith}
 use mathlib.Core.List.{map-map, zip_with, Memᴰ}
 use mathlib.Core.Path.{fun_ext}
-use Rattle.std.specs.List.{range_with_len, AllByRecursion as All}
+use Rattle.std.specs.List.{range_with_len, AllByRecursion}
 use Rattle.std.proofs.lemmas.Bool.{and_parts, and_cases, ltb-true, true≢false, not-false}
 use Rattle.circuit.specs.Circuit.{Circuit, WellFormed, wire_count, at, values}
 use Rattle.circuit.proofs.Numbers.{length_bits}

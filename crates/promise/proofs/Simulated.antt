@@ -1,7 +1,7 @@
 -- The simulator makes, from a tape and an exchanged hash, all that is received, to the last byte. Assumes nothing.
 use Rattle.std.proofs.Common.{◌≡◌, ℕ, ◌+◌, ◌<◌, Bool, true, false, ◌⊎◌, List, [], ◌∷◌, map, length, get_or, take, drop, Ok, Err, sym, refl, ap, ◌∙◌, subst, ap₂, arith}
 use mathlib.Core.List.{zip_with}
-use Rattle.std.specs.List.{AllByRecursion as All}
+use Rattle.std.specs.List.{AllByRecursion}
 use Rattle.std.proofs.lemmas.List.FromFn.{take-map-range_with_len}
 use Rattle.std.proofs.ByRecursion.{All-from_get_or}
 use Rattle.std.proofs.lemmas.List.{length-map}
@@ -108,7 +108,7 @@ module _ (c : Circuit) (good : WellFormed c) (xs : List Bool) (fit : length xs �
         equal_tabulate (held_key c us) (λ w. key_for c ws w (at xs w)) c.inputs (λ w below.
         held_is w (omega arith) ∙ ap (λ v. key_of ws (key w (colour (at coins w) v))) (input_value c good xs fit w below))
 
-    meant : (os : List ℕ) → All (λ w. w < wire_count c) os → zip_with ◌⊕◌ (at_all (coins_of us) os) (at_all (values c xs) os) ≡ map (at coins) os
+    meant : (os : List ℕ) → AllByRecursion (λ w. w < wire_count c) os → zip_with ◌⊕◌ (at_all (coins_of us) os) (at_all (values c xs) os) ≡ map (at coins) os
     unfolding zip_with
     meant [] all = refl
     meant (w ∷ os) all =

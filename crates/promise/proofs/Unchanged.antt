@@ -1,7 +1,7 @@
 -- Paired bytes and the exchanged hash send the same, to the last byte. Assumes nothing.
 use Rattle.std.proofs.Common.{◌≡◌, ℕ, ◌+◌, ◌-◌, ◌<◌, Bool, true, false, not, ◌⊎◌, List, [], ◌∷◌, map, length, take, drop, Ok, Err, sym, refl, ap, ◌∙◌, subst, ap₂, arith}
 use mathlib.Core.List.{zip_with}
-use Rattle.std.specs.List.{AllByRecursion as All}
+use Rattle.std.specs.List.{AllByRecursion}
 use Rattle.std.proofs.ByRecursion.{All-weaker}
 use Rattle.std.proofs.lemmas.List.{get_or-drop, length-map}
 use Rattle.std.proofs.lemmas.Bool.{and_parts, and_from}
@@ -40,7 +40,7 @@ refused_by c n f xs bytes fit none =
     (garbled_refused f c xs bytes n fit none)
 
 -- one who holds the same keys of the wires at hand holds the same of a row
-all_held_same : (held other : ℕ → Bool) (us : List ℕ) (cs : List Bool) → All (λ w. held w ≡ other w) us → all_held held (zip_with key us cs) ≡ true → all_held other (zip_with key us cs) ≡ true
+all_held_same : (held other : ℕ → Bool) (us : List ℕ) (cs : List Bool) → AllByRecursion (λ w. held w ≡ other w) us → all_held held (zip_with key us cs) ≡ true → all_held other (zip_with key us cs) ≡ true
 unfolding zip_with
 all_held_same held other [] cs same all = refl
 all_held_same held other (w ∷ us) [] same all = refl

@@ -1,6 +1,6 @@
 -- An opener that may ask the hash, and the premise about it. Assumes nothing.
 use Rattle.std.specs.Prelude.{ℕ, Bool, List, [], ◌∷◌}
-use Rattle.std.specs.List.{AllByRecursion as All}
+use Rattle.std.specs.List.{AllByRecursion}
 use Rattle.circuit.specs.Circuit.{Circuit}
 use Rattle.garble.specs.Garbled.{TextHash}
 use Rattle.keys.specs.declared.wires.WireKeys.{WireKeys}
@@ -24,4 +24,4 @@ asked h (asks t next) = t ∷ asked h (next (h t))
 -- SHA-256, cut to sixteen bytes, is to it as good as a function drawn at random. The first is this definition; the second is why the theorem counts pairs of drawn
 -- bytes and a function.
 abbrev pub NeverAsks : Circuit → List Bool → List WireKeys → TextHash → Opener → Type 0
-NeverAsks c xs ws h o = All (λ t. ClosedText c xs ws t → ⊥) (asked h o)
+NeverAsks c xs ws h o = AllByRecursion (λ t. ClosedText c xs ws t → ⊥) (asked h o)

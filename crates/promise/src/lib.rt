@@ -1,6 +1,2 @@
-//! stub
+//! The statement on bytes: specs/Promise says it and proofs/Kept proves it. The call that is to carry it is still to come.
 #![tactic(auto)]
-
-pub fn nothing() -> u8 {
-    0
-}

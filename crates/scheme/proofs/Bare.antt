@@ -1,6 +1,6 @@
 -- Keys of no bits but their colours, and a hash of none: such keys there are, and they tell some terms apart. Assumes nothing.
 use Rattle.std.proofs.Common.{◌≡◌, ℕ, zero, suc, ◌<◌, Bool, true, false, List, [], ◌∷◌, ◌++◌, get_or, replicate, refl, ap, arith}
-use Rattle.std.specs.List.{AllByRecursion as All}
+use Rattle.std.specs.List.{AllByRecursion}
 use Rattle.circuit.specs.Circuit.{Circuit}
 use Rattle.circuit.specs.Numbers.{bit}
 use Rattle.scheme.specs.Bytes.{Drawn, value, colour_of}
@@ -11,7 +11,7 @@ use Rattle.scheme.specs.Terms.{block, Term, ◌≈◌}
 use Rattle.scheme.specs.Yao.{Order, yao_by}
 use Rattle.scheme.proofs.Blocks.{sound}
 
-pub small_zeros : (n : ℕ) (b : Bool) → All (λ x. x < 256) (replicate n 0 ++ (bit b ∷ []))
+pub small_zeros : (n : ℕ) (b : Bool) → AllByRecursion (λ x. x < 256) (replicate n 0 ++ (bit b ∷ []))
 small_zeros zero true = (omega arith, tt)
 small_zeros zero false = (omega arith, tt)
 small_zeros (suc n) b = (omega arith, small_zeros n b)

@@ -1,7 +1,7 @@
 -- Equal terms, the rules of deduction, and what is got by them from a row. Assumes nothing.
 use Rattle.std.proofs.Common.{◌≡◌, ℕ, suc, List, [], ◌∷◌, get_or, sym}
 use mathlib.Core.List.{Memᴰ}
-use Rattle.std.specs.List.{AllByRecursion as All}
+use Rattle.std.specs.List.{AllByRecursion}
 use Rattle.scheme.specs.Garbling.{text_of}
 use Rattle.scheme.specs.Terms.{Sort, block, Term, secret, public, xor, pad, tweak, ◌then◌, same, chain, regroup, unit, twice, in_xor, in_pad, in_text, ◌≈◌, substitute, Derives, Deduction}
 
@@ -30,7 +30,7 @@ deduction have =
     }
 
 module _ {A : Type 0} (have : List (Term A block)) where
-  pub derive_text : (ks : List (Term A block)) (ns : List ℕ) → All (λ k. Derives have k) ks → Derives have (text_of ks ns)
+  pub derive_text : (ks : List (Term A block)) (ns : List ℕ) → AllByRecursion (λ k. Derives have k) ks → Derives have (text_of ks ns)
   derive_text [] ns all = (deduction have).numbers ns
   derive_text (k ∷ ks) ns all = (deduction have).writes k (text_of ks ns) all.0 (derive_text ks ns all.1)
 

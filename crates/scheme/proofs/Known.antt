@@ -2,7 +2,7 @@
 use Rattle.std.proofs.Common.{◌≡◌, ℕ, zero, suc, ◌+◌, ◌-◌, ◌<◌, ◌≤◌, Bool, ◌⊎◌, List, map, length, subst, inl, inr, arith}
 use mathlib.Core.List.Memᴰ
 use mathlib.Core.List.{zip_with, flatten, Memᴰ}
-use Rattle.std.specs.List.{AllByRecursion as All}
+use Rattle.std.specs.List.{AllByRecursion}
 use Rattle.std.proofs.ByRecursion.{All-map, All-weaker}
 use Rattle.std.proofs.lemmas.List.{length-map}
 use Rattle.std.proofs.lemmas.Bool.{cases_lt}
@@ -36,7 +36,7 @@ module _ (tweak : Tweak) (order : ℕ → ℕ → List Bool) (c : Circuit) (on :
 
   -- it opens for its keys
   row_opens : (k : ℕ) → k < length c.gates → (cs : List Bool) → length cs ≡ length (gate_at c k).wires →
-      All Gets (zip_with key (gate_at c k).wires cs) → Gets (key (c.inputs + k) (held k cs))
+      AllByRecursion Gets (zip_with key (gate_at c k).wires cs) → Gets (key (c.inputs + k) (held k cs))
   row_opens k below cs len all =
       let keys = zip_with key (gate_at c k).wires cs in
       let closing = text_of (map secret keys) (tweak k cs) in

@@ -3,7 +3,7 @@ use Rattle.std.proofs.Common.{◌≡◌, ℕ, zero, suc, ◌+◌, ◌<◌, ◌�
 use mathlib.Core.List.Memᴰ
 use mathlib.Core.List.{map-map, flatten, Forall₂, Memᴰ}
 use mathlib.Mathlib.Data.List.Forall2.{Forall₂-eq-eq-eq}
-use Rattle.std.specs.List.{range_with_len, AllByRecursion as All}
+use Rattle.std.specs.List.{range_with_len, AllByRecursion}
 use Rattle.std.proofs.lemmas.List.FromFn.{get_or-map-range_with_len}
 use Rattle.scheme.specs.Garbling.{tabulate}
 
@@ -62,7 +62,7 @@ member_beside P {y = y} (Forall₂.cons {b = z} {l₂ = ys} h t) m = go (Memᴰ.
     go (inl e) rest = subst P (sym e) h
     go (inr n) rest = rest n
 
-pub all_mem : {X : Type 0} (P : X → Type 0) {x : X} {xs : List X} → All P xs → Memᴰ x xs → P x
+pub all_mem : {X : Type 0} (P : X → Type 0) {x : X} {xs : List X} → AllByRecursion P xs → Memᴰ x xs → P x
 all_mem P all (Memᴰ.head e) = subst P (sym e) all.0
 all_mem P all (Memᴰ.tail m) = all_mem P all.1 m
 

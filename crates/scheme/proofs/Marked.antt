@@ -2,7 +2,7 @@
 -- any scheme over terms. Assumes nothing.
 use Rattle.std.proofs.Common.{◌≡◌, ℕ, zero, suc, Bool, true, false, cond, ◌&&◌, ◌||◌, List, [], ◌∷◌, length, get_or, sym, refl, ap, ◌∙◌, ap₂}
 use mathlib.Core.List.Forall₂
-use Rattle.std.specs.List.{AllByRecursion as All}
+use Rattle.std.specs.List.{AllByRecursion}
 use Rattle.scheme.specs.Coins.{◌⊕◌}
 use Rattle.scheme.specs.Marking.{Marking, tweak_of, marked, RespectsLaws, OutOfReach, Exchange, exchanged, Becomes, Carried, NotToldApart}
 use Rattle.scheme.specs.Terms.{Sort, block, text, Term, secret, public, xor, pad, tweak, ◌then◌, same, flip, chain, regroup, swap, unit, twice, numbers, wraps, in_xor, in_pad, in_text, ◌≈◌, substitute, Recipe, run}
@@ -32,14 +32,14 @@ module _ {A : Type 0} (m : Marking A) where
   marked_alike (in_pad e) = ap₂ (λ (x : Bool) (ns : List ℕ). x && m.rows ns) (marked_alike e) (same_tweak e)
   marked_alike (in_text e f) = ap₂ ◌||◌ (marked_alike e) (marked_alike f)
 
-  item_unmarked : (have : List (Term A block)) → All (λ t. marked m t ≡ false) have → (i : ℕ) → marked m (get_or have i (public 0)) ≡ false
+  item_unmarked : (have : List (Term A block)) → AllByRecursion (λ t. marked m t ≡ false) have → (i : ℕ) → marked m (get_or have i (public 0)) ≡ false
   unfolding marked
   item_unmarked [] all i = refl
   item_unmarked (t ∷ have) all zero = all.0
   item_unmarked (t ∷ have) all (suc i) = item_unmarked have all.1 i
 
   -- what a recipe gives is not marked
-  recipe_unmarked : {s : Sort} (have : List (Term A block)) → All (λ t. marked m t ≡ false) have → (r : Recipe s) → marked m (run have r) ≡ false
+  recipe_unmarked : {s : Sort} (have : List (Term A block)) → AllByRecursion (λ t. marked m t ≡ false) have → (r : Recipe s) → marked m (run have r) ≡ false
   unfolding marked substitute
   recipe_unmarked have all (secret i) = item_unmarked have all i
   recipe_unmarked have all (public n) = refl
@@ -81,7 +81,7 @@ module _ {A : Type 0} (m : Marking A) (f : Exchange A) where
   exchange_alike (in_text e d) = in_text (exchange_alike e) (exchange_alike d)
 
   -- the first list has no marked term, and by the exchange each recipe's outcome becomes its outcome from the second
-  pub becomes_unmarked : {a e : List (Term A block)} → Becomes m f a e → All (λ t. marked m t ≡ false) a
+  pub becomes_unmarked : {a e : List (Term A block)} → Becomes m f a e → AllByRecursion (λ t. marked m t ≡ false) a
   becomes_unmarked Forall₂.nil = tt
   becomes_unmarked (Forall₂.cons h t) = (h.0, becomes_unmarked t)
 

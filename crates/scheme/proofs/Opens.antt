@@ -2,7 +2,7 @@
 use Rattle.std.proofs.Common.{◌≡◌, ℕ, zero, suc, ◌+◌, ◌^◌, ◌<◌, Bool, List, [], ◌∷◌, ◌++◌, map, length, get_or, drop, sym, refl, ap, ◌∙◌, ap₂, arith}
 use mathlib.Core.List.{map-map, zip_with}
 use mathlib.Core.Path.{fun_ext}
-use Rattle.std.specs.List.{range_with_len, AllByRecursion as All}
+use Rattle.std.specs.List.{range_with_len, AllByRecursion}
 use Rattle.std.proofs.lemmas.List.FromFn.{get_or-map-range_with_len, map-range_with_len_more}
 use Rattle.std.proofs.ByRecursion.{All-from_get_or}
 use Rattle.std.proofs.lemmas.List.{append-nil, length-map, drop_more, drop_all, drop-drop, get_or-drop}
@@ -48,11 +48,11 @@ module _ (coin : List Bool → ℕ → Bool) (tweak : Tweak) (decoded : Circuit 
   abbrev tables : List (List (List ℕ))
   tables = map (map (λ t. value d t)) (map (map (cipher secret)) (tables_by by_colour tweak c (coin coins)))
 
-  held_of : (n : ℕ) (ws : List ℕ) → All (λ w. w < n) ws → held_at (tabulate n held) ws ≡ map held ws
+  held_of : (n : ℕ) (ws : List ℕ) → AllByRecursion (λ w. w < n) ws → held_at (tabulate n held) ws ≡ map held ws
   held_of n [] all = refl
   held_of n (w ∷ ws) all = conses (get_or-map-range_with_len held 0 n w w [] all.0 (omega arith)) (held_of n ws all.1)
 
-  colours_held : (ws : List ℕ) → All (λ w. w < wire_count c) ws → map colour_of (map held ws) ≡ map shade ws
+  colours_held : (ws : List ℕ) → AllByRecursion (λ w. w < wire_count c) ws → map colour_of (map held ws) ≡ map shade ws
   colours_held [] all = refl
   colours_held (w ∷ ws) all = conses (shown (active S c xs coins w) all.0) (colours_held ws all.1)
 
@@ -117,7 +117,7 @@ module _ (coin : List Bool → ℕ → Bool) (tweak : Tweak) (decoded : Circuit 
       ∙ gates_open n (k + 1) (omega arith)
 
   -- meanings after those of the outputs are not read
-  outputs_decode : (ws more : List ℕ) → All (λ w. w < wire_count c) ws → decode (map (coin coins) (ws ++ more)) (held_at (tabulate (wire_count c) held) ws) ≡ at_all (values c xs) ws
+  outputs_decode : (ws more : List ℕ) → AllByRecursion (λ w. w < wire_count c) ws → decode (map (coin coins) (ws ++ more)) (held_at (tabulate (wire_count c) held) ws) ≡ at_all (values c xs) ws
   unfolding zip_with
   outputs_decode [] [] all = refl
   outputs_decode [] (v ∷ more) all = refl

@@ -4,7 +4,7 @@ use Rattle.std.proofs.Common.{◌≡◌, ℕ, ◌+◌, ◌<◌, Bool, true, fals
 use mathlib.Core.Bool.{not-not}
 use mathlib.Core.List.{zip_with, flatten}
 use mathlib.Mathlib.Data.List.Forall2.{rel-append, rel-flatten}
-use Rattle.std.specs.List.{AllByRecursion as All}
+use Rattle.std.specs.List.{AllByRecursion}
 use Rattle.std.proofs.lemmas.Bool.{true≢false, lt-ltb, ltb-true}
 use Rattle.circuit.specs.Circuit.{Circuit, wire_count}
 use Rattle.scheme.specs.Coins.{◌⊕◌}
@@ -69,7 +69,7 @@ module _ (tweak : Tweak) (order : ℕ → ℕ → List Bool) (c : Circuit) (on :
   marking held = record { secrets = missing; rows = λ ns. missing (row_named held ns).holds }
 
   -- a text of keys is marked unless all are held, and is left alone by an exchange
-  marked_text : (held : ℕ → List Bool → Bool) (ks : List Key) (ns : List ℕ) → All (λ k. k.wire < wire_count c) ks →
+  marked_text : (held : ℕ → List Bool → Bool) (ks : List Key) (ns : List ℕ) → AllByRecursion (λ k. k.wire < wire_count c) ks →
       marked (marking held) (text_of (map secret ks) ns) ≡ not (all_held act ks)
   unfolding marked
   marked_text held [] ns all = refl

@@ -1,7 +1,7 @@
 -- Rows and the keys that are held: a row looks open just if its colours are those held; and what is asked of tables for the argument to hold. Assumes nothing.
 use Rattle.std.proofs.Common.{◌≡◌, ℕ, ◌+◌, ◌^◌, ◌<◌, Bool, true, false, cond, not, List, [], ◌∷◌, map, length, sym, refl, ap, ◌∙◌, arith}
 use mathlib.Core.List.{zip_with}
-use Rattle.std.specs.List.{AllByRecursion as All}
+use Rattle.std.specs.List.{AllByRecursion}
 use Rattle.std.proofs.ByRecursion.{All-weaker}
 use Rattle.std.proofs.lemmas.List.{get_or-take}
 use Rattle.std.proofs.lemmas.Bool.{and_parts, not-true}
@@ -39,13 +39,13 @@ pub input_value : (c : Circuit) → WellFormed c → (xs : List Bool) → length
 input_value c good xs fit w below = sym (get_or-take c.inputs (values c xs) w false below) ∙ ap (λ vs. at vs w) (assigned c xs good fit).inputs
 
 -- a gate takes wires made before its own
-pub gate_wires : (c : Circuit) → WellFormed c → (k : ℕ) → k < length c.gates → All (λ w. w < c.inputs + k) (gate_at c k).wires
+pub gate_wires : (c : Circuit) → WellFormed c → (k : ℕ) → k < length c.gates → AllByRecursion (λ w. w < c.inputs + k) (gate_at c k).wires
 gate_wires c good k below = let g = good.4 k below in rw (two_of (gate_at c k).wires g.0) (g.1, (g.2, tt))
 
-pub wires_below : (c : Circuit) → WellFormed c → (k : ℕ) → k < length c.gates → All (λ w. w < wire_count c) (gate_at c k).wires
+pub wires_below : (c : Circuit) → WellFormed c → (k : ℕ) → k < length c.gates → AllByRecursion (λ w. w < wire_count c) (gate_at c k).wires
 wires_below c good k below = All-weaker (λ w. w < c.inputs + k) (λ w. w < wire_count c) (λ w small. omega arith) (gate_at c k).wires (gate_wires c good k below)
 
-pub keys_below : (n : ℕ) (ws : List ℕ) (cs : List Bool) → All (λ w. w < n) ws → All (λ k. k.wire < n) (zip_with key ws cs)
+pub keys_below : (n : ℕ) (ws : List ℕ) (cs : List Bool) → AllByRecursion (λ w. w < n) ws → AllByRecursion (λ k. k.wire < n) (zip_with key ws cs)
 unfolding zip_with
 keys_below n [] cs all = tt
 keys_below n (w ∷ ws) [] all = tt

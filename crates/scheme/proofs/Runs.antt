@@ -2,7 +2,7 @@
 use Rattle.std.proofs.Common.{◌≡◌, ℕ, ◌+◌, ◌-◌, ◌<◌, ◌≤◌, Bool, true, false, cond, not, ◌⊎◌, ◌↔◌, List, [], ◌∷◌, ◌++◌, map, length, sym, refl, ap, ◌∙◌, subst, inl, inr, arith}
 use mathlib.Core.List.{zip_with, flatten, Memᴰ}
 use mathlib.Mathlib.Data.List.Forall2.{rel-flatten}
-use Rattle.std.specs.List.{AllByRecursion as All}
+use Rattle.std.specs.List.{AllByRecursion}
 use Rattle.std.proofs.ByRecursion.{All-map, All-weaker}
 use Rattle.std.proofs.lemmas.List.{length-map}
 use Rattle.std.proofs.lemmas.Bool.{true≢false, cases_lt, and_from}
@@ -33,7 +33,7 @@ module _ (coin : List Bool → ℕ → Bool) (order : Order) (tweak : Tweak) (de
 
   -- by any account of the colours of the keys that are held
   module _ (act : ℕ → Bool) (acts : (w : ℕ) → w < wire_count c → (active S c xs coins w).colour ≡ act w) where
-    colours_agree : (ws : List ℕ) → All (λ w. w < wire_count c) ws → map (λ w. (active S c xs coins w).colour) ws ≡ map act ws
+    colours_agree : (ws : List ℕ) → AllByRecursion (λ w. w < wire_count c) ws → map (λ w. (active S c xs coins w).colour) ws ≡ map act ws
     colours_agree [] all = refl
     colours_agree (w ∷ ws) all = conses (acts w all.0) (colours_agree ws all.1)
 
@@ -72,14 +72,14 @@ module _ (coin : List Bool → ℕ → Bool) (order : Order) (tweak : Tweak) (de
   one_key k = (only_active k, λ own. subst (λ b. Known S c xs coins (key k.wire b)) (sym own.1) (active_known k.wire own.0))
 
   -- keys that can be derived are active, and a row's keys, where they are active, can be derived
-  held_from_known : (ks : List Key) → All (Known S c xs coins) ks → all_held act ks ≡ true
+  held_from_known : (ks : List Key) → AllByRecursion (Known S c xs coins) ks → all_held act ks ≡ true
   held_from_known [] all = refl
   held_from_known (k ∷ ks) all =
       and_from (not (k.colour ⊕ act k.wire)) (all_held act ks)
       (ap (λ b. not (b ⊕ act k.wire)) (only_active k all.0).1 ∙ ap not (xor_same (act k.wire))) (held_from_known ks all.1)
 
   known_from_held : (k : ℕ) → k < length c.gates → (cs : List Bool) → length cs ≡ length (gate_at c k).wires →
-      all_held act (zip_with key (gate_at c k).wires cs) ≡ true → All (Known S c xs coins) (zip_with key (gate_at c k).wires cs)
+      all_held act (zip_with key (gate_at c k).wires cs) ≡ true → AllByRecursion (Known S c xs coins) (zip_with key (gate_at c k).wires cs)
   known_from_held k below cs len all =
       let ws = (gate_at c k).wires in
       rw (colours_held act ws cs len all, keys_held act ws)

@@ -1,7 +1,7 @@
 -- The simulator makes what is not told apart from what is sent, and whatever can be simulated hides inputs. Assumes nothing.
 use Rattle.std.proofs.Common.{◌≡◌, ℕ, ◌+◌, ◌<◌, Bool, true, false, cond, not, ◌&&◌, ◌↔◌, List, [], ◌∷◌, map, length, sym, refl, ap, ◌∙◌, subst, ap₂, arith}
 use mathlib.Core.List.{zip_with}
-use Rattle.std.specs.List.{AllByRecursion as All}
+use Rattle.std.specs.List.{AllByRecursion}
 use Rattle.std.proofs.lemmas.List.FromFn.{length-map-range_with_len, get_or-map-range_with_len}
 use Rattle.std.proofs.ByRecursion.{All-from_get_or}
 use Rattle.std.proofs.lemmas.List.{ext_get_or}
@@ -59,14 +59,14 @@ module _ (c : Circuit) (xs coins : List Bool) (fits : Fits yao c xs coins) where
   fake k below = refl
 
   -- the outputs' coins are made from their colours and the result
-  meanings_made : (ws : List ℕ) → All (λ w. w < wire_count c) ws → map (at coins) ws ≡ zip_with ◌⊕◌ (at_all colours ws) (at_all (values c xs) ws)
+  meanings_made : (ws : List ℕ) → AllByRecursion (λ w. w < wire_count c) ws → map (at coins) ws ≡ zip_with ◌⊕◌ (at_all colours ws) (at_all (values c xs) ws)
   unfolding zip_with
   meanings_made [] all = refl
   meanings_made (w ∷ ws) all =
       conses
       (sym (ap (λ b. b ⊕ at (values c xs) w) (sym (acts w all.0)) ∙ xor_twice (at coins w) (at (values c xs) w))) (meanings_made ws all.1)
 
-  held_agree : (ks : List Key) → All (λ k. k.wire < wire_count c) ks → all_held (λ w. (active yao c xs coins w).colour) ks ≡ all_held (at colours) ks
+  held_agree : (ks : List Key) → AllByRecursion (λ k. k.wire < wire_count c) ks → all_held (λ w. (active yao c xs coins w).colour) ks ≡ all_held (at colours) ks
   held_agree [] all = refl
   held_agree (k ∷ ks) all = ap₂ ◌&&◌ (ap (λ b. not (k.colour ⊕ b)) (acts k.wire all.0)) (held_agree ks all.1)
 

@@ -1,7 +1,7 @@
 -- The worked examples. Assumes nothing.
 use Rattle.std.proofs.Common.{◌≡◌, ℕ, ◌^◌, ◌<◌, Bool, true, false, cond, not, ◌&&◌, List, [], ◌∷◌, length, refl, ap, ◌∙◌, arith}
 use mathlib.Core.List.{zip_with}
-use Rattle.std.specs.List.{AllByRecursion as All}
+use Rattle.std.specs.List.{AllByRecursion}
 use Rattle.circuit.specs.Circuit.{Circuit, at, at_all, extended, values, result}
 use Rattle.circuit.specs.Numbers.{bits, digits}
 use Rattle.scheme.specs.Coins.{◌⊕◌, colour}
@@ -10,7 +10,7 @@ use Rattle.scheme.specs.Garbling.{key, Row, Seen, opened, closed, seen_at, all_h
 use Rattle.scheme.specs.Yao.{gate_at, row_of, held_for, by_colour, numbered, yao}
 use Rattle.scheme.proofs.Tables.{row_entry}
 
-examples_work : All Works examples
+examples_work : AllByRecursion Works examples
 unfolding extended zip_with digits
 examples_work =
     ((refl, refl, refl, refl), ((refl, refl, refl, refl), ((refl, refl, refl, refl), ((refl, refl, refl, refl), ((refl, refl, refl, refl), ((refl, refl, refl, refl), ((refl, refl, refl, refl), tt)))))))

@@ -1,7 +1,7 @@
 -- Blocks as bytes: what terms are once secrets are drawn and a hash is chosen. Assumes nothing.
 use Rattle.std.specs.Prelude.{◌≡◌, ℕ, ◌%◌, ◌<◌, Bool, List, [], ◌∷◌, length, ◌==◌, bit_xor, slice_index}
 use mathlib.Core.List.{zip_with}
-use Rattle.std.specs.List.{AllByRecursion as All}
+use Rattle.std.specs.List.{AllByRecursion}
 use Rattle.circuit.specs.Circuit.{Circuit}
 use Rattle.circuit.specs.Numbers.{digits}
 use Rattle.scheme.specs.Terms.{Sort, block, text, Term, secret, public, xor, pad, tweak, ◌then◌}
@@ -19,7 +19,7 @@ Hash = List (List ℕ) → List ℕ → List ℕ
 
 -- sixteen bytes
 abbrev pub Block : List ℕ → Type 0
-Block bs = (length bs ≡ 16) × All (λ b. b < 256) bs
+Block bs = (length bs ≡ 16) × AllByRecursion (λ b. b < 256) bs
 
 -- a hash, and what was drawn
 pub record Drawn (A : Type 0) : Type 0 where

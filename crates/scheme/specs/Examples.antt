@@ -1,6 +1,6 @@
 -- Worked examples. Assumes nothing.
 use Rattle.std.specs.Prelude.{◌≡◌, ℕ, ◌<◌, Bool, true, false, List, [], ◌∷◌, map, length}
-use Rattle.std.specs.List.{AllByRecursion as All}
+use Rattle.std.specs.List.{AllByRecursion}
 use Rattle.circuit.specs.Circuit.{Circuit, at_all, result}
 use Rattle.circuit.specs.Numbers.{bits}
 use Rattle.scheme.specs.Coins.{coins_of_pair}
@@ -108,7 +108,7 @@ examples =
     ∷ []
 
 pub record WorkedExamples : Type 0 where
-  pub work : All Works examples
+  pub work : AllByRecursion Works examples
   -- the coins of the two inputs with one result are paired
   pub paired : coins_of_pair conjunction (bits 2 0b10) (bits 2 0b01) (bits 3 0b000) ≡ bits 3 0b110
   -- without gates the result is some of the inputs

@@ -2,7 +2,7 @@
 -- exchange of what is out of reach for something else, which nobody notices. Assumes nothing.
 use Rattle.std.specs.Prelude.{◌≡◌, ℕ, Bool, false, cond, ◌&&◌, ◌||◌, List}
 use mathlib.Core.List.{Forall₂}
-use Rattle.std.specs.List.{AllByRecursion as All}
+use Rattle.std.specs.List.{AllByRecursion}
 use Rattle.scheme.specs.Coins.{◌⊕◌}
 use Rattle.scheme.specs.Terms.{Sort, block, text, Term, secret, public, xor, pad, tweak, ◌then◌, ◌≈◌, Recipe, run, Derives, StaticallyEquivalent}
 
@@ -33,7 +33,7 @@ RespectsLaws A = (m : Marking A) (s : Sort) (t u : Term A s) → t ≈ u → mar
 -- no marked term is derived from terms that are not marked
 abbrev pub OutOfReach : Type 0 → Type 0
 OutOfReach A =
-    (m : Marking A) (have : List (Term A block)) → All (λ t. marked m t ≡ false) have → (s : Sort) (t : Term A s) → Derives have t → marked m t ≡ false
+    (m : Marking A) (have : List (Term A block)) → AllByRecursion (λ t. marked m t ≡ false) have → (s : Sort) (t : Term A s) → Derives have t → marked m t ≡ false
 
 -- The exchange: something else stands for a secret, and for a pad whose text is marked.
 pub record Exchange (A : Type 0) : Type 0 where

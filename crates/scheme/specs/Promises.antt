@@ -2,7 +2,7 @@
 -- result alone, and so inputs with one result are not told apart. Assumes nothing.
 use Rattle.std.specs.Prelude.{◌≡◌, ℕ, ◌<◌, Bool, ◌⊎◌, ◌↔◌, List, map, length}
 use mathlib.Core.List.{flatten, Forall₂, Memᴰ}
-use Rattle.std.specs.List.{AllByRecursion as All}
+use Rattle.std.specs.List.{AllByRecursion}
 use Rattle.circuit.specs.Circuit.{Circuit, WellFormed, wire_count, at, result}
 use Rattle.scheme.specs.Bytes.{Drawn, value, colour_of}
 use Rattle.scheme.specs.Garbling.{Key, Row, Scheme, blocks, Seen, opened, closed, View, Got, sent, active, view, got}
@@ -77,8 +77,8 @@ module _ {A : Type 0} (S : Scheme A) where
 
   -- a row is seen open, with the key in it, where all its keys can be derived, and closed where they cannot
   pub data SeenAs (c : Circuit) (xs coins : List Bool) (r : Row) : Seen → Type 0 where
-    as_open : All (Known c xs coins) r.keys → SeenAs c xs coins r (opened r.holds)
-    as_closed : (All (Known c xs coins) r.keys → ⊥) → SeenAs c xs coins r closed
+    as_open : AllByRecursion (Known c xs coins) r.keys → SeenAs c xs coins r (opened r.holds)
+    as_closed : (AllByRecursion (Known c xs coins) r.keys → ⊥) → SeenAs c xs coins r closed
 
   -- a key stands in a view: it is an input's, or is in an open row
   abbrev pub Shows : View → Key → Type 0
