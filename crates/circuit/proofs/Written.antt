@@ -5,7 +5,7 @@ use Rattle.std.proofs.lemmas.List.{take_at, drop_at, append-nil, length-append}
 use Rattle.std.proofs.lemmas.Bool.{le-leb, lt-ltb}
 use Rattle.circuit.specs.Numbers.{digits, bits, binary}
 use Rattle.circuit.specs.Circuit.{Circuit, GoodGate, WellFormed, no_gate, most_inputs, most_gates, most_outputs}
-use Rattle.circuit.specs.Format.{Part, field, count, wire, gate, checked, gate_bytes, many, kind, head, outputs, encode, parse}
+use Rattle.circuit.specs.Format.{Part, field, count, wire, gate, checked, gate_bytes, many, kind, head, encode, parse}
 use Rattle.circuit.specs.Refusals.{refuse}
 use Rattle.circuit.specs.declared.gates.Gate.{Gate}
 use Rattle.circuit.specs.declared.reading.Head.{Head}

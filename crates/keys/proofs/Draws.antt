@@ -1,12 +1,12 @@
 -- All keys that are drawn are blocks of their colours, with stems that differ. Assumes nothing.
-use Rattle.std.proofs.Common.{◌≡◌, ℕ, zero, suc, ◌<◌, ◌≤◌, Bool, true, false, cond, ◌||◌, eqb, leb, List, [], ◌∷◌, length, get_or, take, drop, replicate, Ok, sym, refl, ap, ◌∙◌, ap₂, ⊎_elim, arith, lit<}
+use Rattle.std.proofs.Common.{◌≡◌, ℕ, zero, suc, ◌<◌, ◌≤◌, Bool, true, false, cond, eqb, leb, List, [], ◌∷◌, length, take, drop, replicate, Ok, sym, refl, ap, ◌∙◌, ap₂, ⊎_elim, arith, lit<}
 use Rattle.std.proofs.ByRecursion.{All-take, All-drop, All-from_get_or}
 use Rattle.std.proofs.lemmas.List.{get_or_past, get_or-replicate, length-take-le}
 use Rattle.std.proofs.lemmas.Bool.{both_ways, cases_lt, eq-eqb, leb-true, or_parts}
 use Rattle.circuit.proofs.AndThen.{no_answer, then_ok, cond_ok}
 use Rattle.scheme.specs.Bytes.{Block, colour_of}
 use Rattle.scheme.specs.Garbling.{Key, key}
-use Rattle.keys.specs.Drawing.{Bytes, stem, coloured, among, used_up, fresh, draw_key, draw_keys, wire_of, seen_with, draw_wires, no_wire, key_of, Lawful, DrawsLawful}
+use Rattle.keys.specs.Drawing.{Bytes, stem, among, used_up, fresh, draw_key, draw_keys, wire_of, seen_with, draw_wires, no_wire, key_of, DrawsLawful}
 use Rattle.keys.specs.declared.wires.WireKeys.{WireKeys}
 use Rattle.keys.proofs.Coloured.{colour_coloured, block_coloured, stem_coloured}
 

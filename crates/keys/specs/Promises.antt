@@ -1,8 +1,8 @@
 -- What the calls of this crate promise of their answers. Assumes nothing.
-use Rattle.std.specs.Prelude.{◌≡◌, ℕ, ◌*◌, ◌≤◌, Bool, List, length, Ok, Err, vec_items, Result, Vec}
+use Rattle.std.specs.Prelude.{◌≡◌, ℕ, ◌≤◌, List, length, Ok, vec_items, Result, Vec}
 use Rattle.std.specs.List.{AllByRecursion}
 use Rattle.std.specs.declared.alloc.Global.{Global}
-use Rattle.circuit.specs.Refusals.{Answer, Answers}
+use Rattle.circuit.specs.Refusals.{Answers}
 use Rattle.circuit.specs.declared.refusals.Failure.{Failure}
 use Rattle.scheme.specs.Bytes.{Block}
 use Rattle.keys.specs.Files.{most_keys, keys_file, written_keys, keys_for}

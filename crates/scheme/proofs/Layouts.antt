@@ -2,7 +2,7 @@
 -- one gate. Assumes nothing.
 use Rattle.std.proofs.Common.{◌≡◌, ℕ, suc, ◌≤◌, Bool, List, [], ◌∷◌, length, get_or, refl, ap, ◌∙◌, arith}
 use mathlib.Core.List.{zip_with}
-use Rattle.circuit.specs.Circuit.{Circuit, at}
+use Rattle.circuit.specs.Circuit.{Circuit}
 use Rattle.circuit.specs.Numbers.{binary, bits}
 use Rattle.circuit.proofs.Numbers.{bits_binary, binary_lt, length_bits}
 use Rattle.scheme.specs.NearMisses.{by_value, unnumbered}

@@ -7,7 +7,7 @@ use Rattle.std.proofs.ByRecursion.{All-map, All-weaker}
 use Rattle.std.proofs.lemmas.List.{length-map}
 use Rattle.std.proofs.lemmas.Bool.{true≢false, cases_lt, and_from}
 use Rattle.circuit.specs.Circuit.{Circuit, wire_count, at}
-use Rattle.scheme.specs.Coins.{◌⊕◌, colour}
+use Rattle.scheme.specs.Coins.{◌⊕◌}
 use Rattle.scheme.specs.Garbling.{Key, key, Row, Scheme, blocks, Seen, opened, closed, View, all_held, look, cipher, value_key, sent, active, view}
 use Rattle.scheme.specs.Opening.{Tweak}
 use Rattle.scheme.specs.Promises.{Fits, Known, SeenAs, as_open, as_closed, Shows, Sees}

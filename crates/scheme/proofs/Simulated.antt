@@ -7,7 +7,7 @@ use Rattle.std.proofs.ByRecursion.{All-from_get_or}
 use Rattle.std.proofs.lemmas.List.{ext_get_or}
 use Rattle.circuit.specs.Circuit.{Circuit, wire_count, at, at_all, values, result}
 use Rattle.scheme.specs.Coins.{◌⊕◌, colour, colours_of}
-use Rattle.scheme.specs.Garbling.{Key, key, Scheme, blocks, Got, opened, closed, all_held, look, value_key, active, view, got}
+use Rattle.scheme.specs.Garbling.{Key, key, Scheme, blocks, Got, opened, closed, all_held, look, value_key, active, got}
 use Rattle.scheme.specs.Promises.{Alike, Fits, Simulatable, HidesInputs}
 use Rattle.scheme.specs.Simulation.{simulate}
 use Rattle.scheme.specs.Terms.{block, Term, secret, ◌≈◌, run, StaticallyEquivalent, sum}

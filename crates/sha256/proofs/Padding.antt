@@ -5,7 +5,7 @@ use Rattle.std.specs.Int.Digits.{number_from_digits}
 use Rattle.std.proofs.lemmas.Nat.{shr-shr, field_of, div-add-mod'}
 use Rattle.std.proofs.lemmas.List.{length-append, length-replicate, length-drop, replicate-append-replicate, take-append-le, drop-append-le, take_at, drop_at, take_all}
 use Rattle.circuit.specs.Numbers.{digits}
-use Rattle.circuit.proofs.Numbers.{length_digits, four_bytes}
+use Rattle.circuit.proofs.Numbers.{length_digits}
 use Rattle.sha256.specs.Hash.{words, blocks, compressed, zeros, padding, start, sha256}
 use Rattle.sha256.specs.Turns.{value_from}
 use Rattle.sha256.proofs.Bytes.{four}

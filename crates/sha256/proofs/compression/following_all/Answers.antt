@@ -1,4 +1,4 @@
-use Rattle.std.proofs.Common.{◌≡◌, ℕ, List, [], ◌∷◌, sym, subst, rules}
+use Rattle.std.proofs.Common.{ℕ, List, [], ◌∷◌, sym, subst, rules}
 use Rattle.sha256.specs.Turns.{Follows}
 use Rattle.sha256.proofs.Written.{written, written_all}
 use Rattle.sha256.proofs.compression.following_all.Goals as goal

@@ -1,4 +1,4 @@
-use Rattle.std.proofs.Common.{◌≡◌, ◌^◌, ◌<◌, rules}
+use Rattle.std.proofs.Common.{rules}
 use Rattle.sha256.proofs.RowBlock.{row_digest}
 use Rattle.sha256.proofs.rows.row_block.Goals as goal
 

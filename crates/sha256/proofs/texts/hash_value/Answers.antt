@@ -1,4 +1,4 @@
-use Rattle.std.proofs.Common.{◌≡◌, ◌≤◌, length, ap, ◌∙◌, arith, rules}
+use Rattle.std.proofs.Common.{length, ap, ◌∙◌, arith}
 use Rattle.sha256.specs.Hash.{compressed, words}
 use Rattle.sha256.proofs.Padding.{value_more, hashed}
 use Rattle.sha256.proofs.texts.hash_value.Goals as goal

@@ -1,4 +1,4 @@
-use Rattle.std.proofs.Common.{arith, rules}
+use Rattle.std.proofs.Common.{arith}
 use Rattle.sha256.proofs.Bytes.{copied_more, copied_all}
 use Rattle.sha256.proofs.texts.marked.Goals as goal
 

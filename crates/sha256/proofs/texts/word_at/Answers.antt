@@ -1,4 +1,4 @@
-use Rattle.std.proofs.Common.{◌+◌, ◌*◌, ◌<◌, length, ◌∙◌, arith, rules}
+use Rattle.std.proofs.Common.{◌+◌, ◌*◌, ◌<◌, length, ◌∙◌, rules}
 use Rattle.sha256.proofs.Bytes.{word_is}
 use Rattle.sha256.proofs.texts.word_at.Goals as goal
 
