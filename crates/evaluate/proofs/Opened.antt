@@ -1,10 +1,10 @@
 -- What a maker and the notary send is opened to the circuit's result. Assumes nothing.
-use Rattle.std.proofs.Common.{◌≡◌, ℕ, zero, suc, ◌+◌, ◌-◌, ◌^◌, ◌<◌, ◌≤◌, Bool, true, false, List, [], ◌∷◌, ◌++◌, map, length, get_or, take, drop, Ok, Err, sym, refl, ap, ◌∙◌, subst, ap₂, arith}
+use Rattle.std.proofs.Common.{◌≡◌, ℕ, zero, suc, ◌+◌, ◌-◌, ◌^◌, ◌<◌, ◌≤◌, Bool, false, List, [], ◌∷◌, ◌++◌, map, length, take, drop, Ok, Err, sym, refl, ap, ◌∙◌, subst, ap₂, arith}
 use mathlib.Core.List.{zip_with}
-use lib.Bits.{bit_xor, xor_lt}
+use lib.Bits.{xor_lt}
 use Rattle.std.specs.List.{range_with_len, AllByRecursion}
 use Rattle.std.proofs.lemmas.List.FromFn.{length-map-range_with_len}
-use Rattle.std.proofs.ByRecursion.{All-map, All-weaker}
+use Rattle.std.proofs.ByRecursion.{All-map}
 use Rattle.std.proofs.lemmas.List.{get_or-take, length-map, length-take-le, take-append-drop}
 use Rattle.circuit.specs.Circuit.{Circuit, WellFormed, wire_count, at, result}
 use Rattle.circuit.specs.Numbers.{bit}
@@ -12,10 +12,10 @@ use Rattle.circuit.specs.Refusals.{Answer, ◌and_then◌}
 use Rattle.circuit.proofs.AndThen.{no_answer, then_is}
 use Rattle.evaluate.specs.Evaluated.{evaluated, OpensRight}
 use Rattle.garble.specs.Formats.{tables_file, meanings_file, parse_tables, parse_meanings}
-use Rattle.garble.specs.Garbled.{TextHash, pad_by, closed_row, Files, files_of, key_for, maker_keys, closed_tables, garbled}
+use Rattle.garble.specs.Garbled.{TextHash, pad_by, closed_row, Files, files_of, key_for, maker_keys, closed_tables}
 use Rattle.garble.specs.Interpretation.{BlockHash, interpretation}
 use Rattle.garble.proofs.Written.{tables_back, meanings_back}
-use Rattle.keys.specs.Drawing.{Bytes, drawn, key_of, coins_of, Lawful}
+use Rattle.keys.specs.Drawing.{drawn, key_of, coins_of, Lawful}
 use Rattle.keys.specs.Files.{keys_file, keys_for, notarized}
 use Rattle.keys.specs.declared.wires.WireKeys.{WireKeys}
 use Rattle.keys.proofs.Draws.{draws_lawful}

@@ -1,11 +1,9 @@
 -- What a maker and the notary send, written out: the bytes of the scheme's terms. Assumes nothing.
-use Rattle.std.proofs.Common.{◌≡◌, ℕ, zero, suc, ◌+◌, ◌-◌, ◌*◌, ◌/◌, ◌<◌, ◌≤◌, Bool, true, false, eqb, List, [], ◌∷◌, ◌++◌, map, length, get_or, take, drop, Ok, Err, sym, refl, ap, ◌∙◌, ap₂, add-zero, arith}
+use Rattle.std.proofs.Common.{◌≡◌, ℕ, zero, suc, ◌+◌, ◌-◌, ◌*◌, ◌/◌, ◌<◌, ◌≤◌, Bool, true, false, List, [], ◌∷◌, map, length, get_or, take, drop, Ok, Err, sym, refl, ap, ◌∙◌, add-zero, arith}
 use mathlib.Core.List.{map-map}
-use mathlib.Core.Path.{fun_ext}
 use Rattle.std.specs.List.{range_with_len, flat_map, AllByRecursion}
 use Rattle.std.proofs.lemmas.List.FromFn.{length-map-range_with_len, get_or-map-range_with_len, take-map-range_with_len}
-use Rattle.std.proofs.ByRecursion.{All-from_get_or}
-use Rattle.std.proofs.lemmas.List.{ext_get_or, get_or-drop, length-drop, length-take-le}
+use Rattle.std.proofs.lemmas.List.{ext_get_or, get_or-drop, length-drop}
 use Rattle.std.proofs.lemmas.Bool.{eq-eqb}
 use Rattle.circuit.specs.Circuit.{Circuit, WellFormed, wire_count, at}
 use Rattle.circuit.specs.Numbers.{bit}
@@ -13,7 +11,7 @@ use Rattle.circuit.specs.Refusals.{◌and_then◌}
 use Rattle.circuit.proofs.AndThen.{then_is, then_err}
 use Rattle.bits.specs.Texts.{values_text}
 use Rattle.bits.proofs.BitTexts.{values_back}
-use Rattle.garble.specs.Garbled.{TextHash, closed_row, files_of, key_for, notary_keys, maker_keys, closed_tables, garbled}
+use Rattle.garble.specs.Garbled.{TextHash, closed_row, files_of, key_for, notary_keys, maker_keys, garbled}
 use Rattle.garble.specs.Interpretation.{BlockHash, interpretation}
 use Rattle.keys.specs.Drawing.{drawn, key_of, coins_of}
 use Rattle.keys.specs.Files.{keys_file, chosen, choice, notarized}

@@ -1,5 +1,5 @@
 -- Lists made place by place, in pieces of one size. Assumes nothing.
-use Rattle.std.proofs.Common.{◌≡◌, ℕ, zero, suc, ◌+◌, ◌*◌, ◌∷◌, ◌++◌, map, sym, refl, ap, ◌∙◌, add-zero, mul-zero, zero-add, mul-one, mul-suc, mul-add, arith}
+use Rattle.std.proofs.Common.{◌≡◌, ℕ, zero, suc, ◌+◌, ◌*◌, ◌∷◌, ◌++◌, map, refl, ap, ◌∙◌, add-zero, mul-zero, zero-add, mul-one, mul-suc, mul-add, arith}
 use mathlib.Core.List.{map-append}
 use Rattle.std.specs.List.{range_with_len, flat_map}
 use Rattle.scheme.specs.Garbling.{tabulate}

@@ -7,7 +7,7 @@ use Rattle.std.proofs.lemmas.List.{append-nil, drop_at, get_or-drop, get_or_past
 use Rattle.std.proofs.lemmas.Bool.{cases_lt, eq-eqb, le-leb}
 use Rattle.circuit.specs.Circuit.{at}
 use Rattle.circuit.specs.Format.{many}
-use Rattle.circuit.specs.Numbers.{digits, binary, bits}
+use Rattle.circuit.specs.Numbers.{digits, binary}
 use Rattle.circuit.proofs.AndThen.{then_is}
 use Rattle.circuit.proofs.Numbers.{length_digits, number_digits, bits_binary}
 use Rattle.keys.specs.Files.{sixteens}

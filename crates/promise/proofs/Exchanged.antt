@@ -1,24 +1,23 @@
 -- The exchanged hash: it closes rows that hold other keys to the same bytes, goes back by the exchange back, and differs only at texts of closed rows. Assumes nothing.
-use Rattle.std.proofs.Common.{◌≡◌, ℕ, zero, suc, ◌+◌, ◌^◌, ◌<◌, Bool, true, false, cond, not, ◌&&◌, ltb, ◌⊎◌, List, [], ◌∷◌, map, length, get_or, replicate, sym, refl, ap, ◌∙◌, subst, ap₂, inl, inr, arith}
+use Rattle.std.proofs.Common.{◌≡◌, ℕ, ◌+◌, ◌<◌, Bool, true, false, cond, not, ◌&&◌, ltb, ◌⊎◌, List, [], ◌∷◌, map, length, get_or, sym, refl, ap, ◌∙◌, subst, ap₂, inl, inr}
 use mathlib.Core.List.{map-map, zip_with, Memᴰ}
 use mathlib.Core.Path.{fun_ext}
-use Rattle.std.specs.List.{range_with_len, AllByRecursion}
-use Rattle.std.proofs.lemmas.Bool.{and_parts, and_cases, ltb-true, true≢false, not-false}
-use Rattle.circuit.specs.Circuit.{Circuit, WellFormed, wire_count, at, values}
-use Rattle.circuit.proofs.Numbers.{length_bits}
+use Rattle.std.specs.List.{range_with_len}
+use Rattle.std.proofs.lemmas.Bool.{and_parts, ltb-true, true≢false}
+use Rattle.circuit.specs.Circuit.{Circuit, WellFormed, wire_count, at}
 use Rattle.evaluate.proofs.Opened.{xor_block}
-use Rattle.garble.specs.Garbled.{TextHash, closed_row, closed_tables}
+use Rattle.garble.specs.Garbled.{TextHash}
 use Rattle.garble.specs.Interpretation.{BlockHash}
 use Rattle.keys.specs.Drawing.{key_of, coins_of}
 use Rattle.keys.specs.declared.wires.WireKeys.{WireKeys}
 use Rattle.scheme.specs.Bytes.{Block, xor_bytes}
-use Rattle.scheme.specs.Coins.{◌⊕◌, colour, active_colour}
-use Rattle.scheme.specs.Garbling.{Key, key, tabulate, all_held, active}
+use Rattle.scheme.specs.Coins.{◌⊕◌, active_colour}
+use Rattle.scheme.specs.Garbling.{Key, key, tabulate, all_held}
 use Rattle.scheme.specs.Promises.{Known, Fits}
-use Rattle.scheme.specs.Yao.{gate_at, held_for, by_colour, yao}
+use Rattle.scheme.specs.Yao.{gate_at, held_for, yao}
 use Rattle.scheme.proofs.Blocks.{bytes_comm, bytes_assoc, bytes_self, bytes_zero}
 use Rattle.scheme.proofs.Colours.{xor_same}
-use Rattle.scheme.proofs.Lists.{conses, equal_tabulate}
+use Rattle.scheme.proofs.Lists.{equal_tabulate}
 use Rattle.scheme.proofs.Rows.{active_row, colours_held}
 use Rattle.scheme.proofs.Stated.{statement}
 use Rattle.sha256.specs.Pads.{row_text}

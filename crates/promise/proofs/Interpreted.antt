@@ -1,5 +1,5 @@
 -- What is received is what the scheme sends, as bytes. Assumes nothing.
-use Rattle.std.proofs.Common.{◌≡◌, ℕ, ◌<◌, Bool, false, List, map, length, take, drop, Ok, sym, refl, ap, ◌∙◌, ap₂, arith}
+use Rattle.std.proofs.Common.{◌≡◌, ℕ, Bool, false, List, map, length, take, drop, Ok, sym, ap, ◌∙◌, ap₂, arith}
 use Rattle.std.proofs.lemmas.List.{get_or-take, length-take-le}
 use Rattle.circuit.specs.Circuit.{Circuit, WellFormed, wire_count, at}
 use Rattle.circuit.specs.Numbers.{bit}
@@ -7,9 +7,9 @@ use Rattle.circuit.specs.Refusals.{◌and_then◌}
 use Rattle.circuit.proofs.AndThen.{then_is}
 use Rattle.evaluate.proofs.Sent.{notarized_is, garbled_is, tables_are, openers_are, makers_are}
 use Rattle.garble.specs.Formats.{tables_file, meanings_file}
-use Rattle.garble.specs.Garbled.{TextHash, Files, files_of, key_for, maker_keys, closed_tables}
+use Rattle.garble.specs.Garbled.{TextHash, files_of, key_for, maker_keys, closed_tables}
 use Rattle.garble.specs.Interpretation.{BlockHash, interpretation}
-use Rattle.keys.specs.Drawing.{Bytes, drawn, stem, key_of, coins_of, Lawful}
+use Rattle.keys.specs.Drawing.{Bytes, drawn, stem, key_of, coins_of}
 use Rattle.keys.specs.Files.{keys_file, notarized}
 use Rattle.keys.specs.declared.wires.WireKeys.{WireKeys}
 use Rattle.keys.proofs.Draws.{draws_lawful}

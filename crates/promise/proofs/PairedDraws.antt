@@ -1,18 +1,18 @@
 -- Drawn bytes are paired one to one, and from paired bytes paired coins and the same keys are drawn. Assumes nothing.
-use Rattle.std.proofs.Common.{◌≡◌, ℕ, zero, suc, ◌<◌, ◌≤◌, Bool, true, false, cond, ◌⊎◌, List, [], ◌∷◌, map, length, get_or, Ok, sym, refl, ap, ◌∙◌, subst, ap₂, inl, inr, arith}
+use Rattle.std.proofs.Common.{◌≡◌, ℕ, zero, suc, ◌<◌, ◌≤◌, Bool, false, cond, ◌⊎◌, List, [], ◌∷◌, length, get_or, Ok, sym, refl, ap, ◌∙◌, subst, inl, inr, arith}
 use mathlib.Core.List.{zip_with}
 use Rattle.std.proofs.lemmas.List.FromFn.{length-map-range_with_len, get_or-map-range_with_len}
 use Rattle.std.proofs.lemmas.List.{ext_get_or, get_or-map, get_or_past, length-map}
 use Rattle.std.proofs.lemmas.Bool.{cases_lt}
 use Rattle.circuit.specs.Circuit.{Circuit, wire_count, at, values}
 use Rattle.circuit.specs.Refusals.{◌and_then◌}
-use Rattle.keys.specs.Drawing.{Bytes, drawn, draw_wires, no_wire, key_of, coins_of}
+use Rattle.keys.specs.Drawing.{draw_wires, no_wire, key_of, coins_of}
 use Rattle.keys.specs.declared.wires.WireKeys.{WireKeys}
-use Rattle.scheme.specs.Coins.{◌⊕◌, paired_by, coins_of_pair}
+use Rattle.scheme.specs.Coins.{◌⊕◌, coins_of_pair}
 use Rattle.scheme.specs.Garbling.{Key}
 use Rattle.scheme.proofs.Colours.{xor_comm, xor_assoc}
 use Rattle.scheme.proofs.Lists.{equal_tabulate}
-use Rattle.promise.specs.Pairing.{recoined, recoined_wire, recoined_wires, differences, paired_bytes, paired_wires}
+use Rattle.promise.specs.Pairing.{recoined, recoined_wire, recoined_wires, differences, paired_wires}
 use Rattle.promise.specs.Promise.{PairsBytes}
 use Rattle.promise.proofs.Recoined.{recoined_drawn, recoined_back, recoined_size, recoined_small}
 

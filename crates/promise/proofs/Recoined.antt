@@ -1,7 +1,6 @@
 -- Drawn bytes with coins turned over: the same keys are drawn, with those coins turned over, and turning over twice is nothing. Assumes nothing.
-use Rattle.std.proofs.Common.{◌≡◌, ℕ, zero, suc, ◌+◌, ◌-◌, ◌*◌, ◌/◌, ◌%◌, ◌<◌, Bool, true, false, eqb, List, [], ◌∷◌, ◌++◌, length, take, Ok, Err, sym, refl, ap, ◌∙◌, subst, ap₂, arith}
+use Rattle.std.proofs.Common.{◌≡◌, ℕ, zero, suc, ◌+◌, ◌-◌, ◌*◌, ◌/◌, ◌%◌, ◌<◌, Bool, true, false, List, [], ◌∷◌, ◌++◌, length, take, Ok, Err, sym, refl, ap, ◌∙◌, subst, ap₂, arith}
 use mathlib.Core.List.{zip_with}
-use Rattle.std.specs.List.{AllByRecursion}
 use Rattle.std.proofs.ByRecursion.{All-append, All-take, All-drop}
 use Rattle.std.proofs.lemmas.List.{length-append, take_at, drop_at}
 use Rattle.std.proofs.lemmas.Bool.{eq-eqb, ne_eqb, eqb-true, eqb-false}
@@ -13,7 +12,7 @@ use Rattle.keys.specs.Drawing.{Bytes, coin_of, draw_keys, wire_of, seen_with, dr
 use Rattle.keys.specs.declared.wires.WireKeys.{WireKeys}
 use Rattle.scheme.specs.Coins.{◌⊕◌}
 use Rattle.scheme.proofs.Colours.{xor_back}
-use Rattle.promise.specs.Pairing.{turned_over, after_keys, recoined, recoined_wire, recoined_wires}
+use Rattle.promise.specs.Pairing.{turned_over, after_keys, recoined, recoined_wires}
 use Rattle.promise.proofs.Cuts.{KeysCut, keys_cut}
 
 -- a byte's coin

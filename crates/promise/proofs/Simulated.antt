@@ -1,5 +1,5 @@
 -- The simulator makes, from a tape and an exchanged hash, all that is received, to the last byte. Assumes nothing.
-use Rattle.std.proofs.Common.{◌≡◌, ℕ, ◌+◌, ◌<◌, Bool, true, false, ◌⊎◌, List, [], ◌∷◌, map, length, get_or, take, drop, Ok, Err, sym, refl, ap, ◌∙◌, subst, ap₂, arith}
+use Rattle.std.proofs.Common.{◌≡◌, ℕ, ◌+◌, ◌<◌, Bool, true, ◌⊎◌, List, [], ◌∷◌, map, length, take, drop, Ok, Err, sym, refl, ap, ◌∙◌, subst, ap₂, arith}
 use mathlib.Core.List.{zip_with}
 use Rattle.std.specs.List.{AllByRecursion}
 use Rattle.std.proofs.lemmas.List.FromFn.{take-map-range_with_len}
@@ -24,7 +24,7 @@ use Rattle.scheme.specs.Yao.{gate_at, row_of, by_colour, numbered}
 use Rattle.scheme.proofs.Colours.{xor_comm, xor_twice}
 use Rattle.scheme.proofs.Lists.{conses, equal_tabulate}
 use Rattle.scheme.proofs.Rows.{input_value}
-use Rattle.promise.specs.Exchange.{row_at, row_count, text_at, held_at, exchanged, exchanged_by, ClosedText}
+use Rattle.promise.specs.Exchange.{row_at, row_count, held_at, exchanged, exchanged_by, ClosedText}
 use Rattle.promise.specs.Pairing.{recoined, recoined_wires}
 use Rattle.promise.specs.Promise.{Simulates}
 use Rattle.promise.specs.Received.{received}

@@ -24,7 +24,7 @@ use Rattle.scheme.specs.Yao.{gate_at, by_colour, yao}
 use Rattle.scheme.proofs.Lists.{equal_tabulate}
 use Rattle.scheme.proofs.Pairs.{pairs, kept_outputs}
 use Rattle.scheme.proofs.Rows.{input_value, wires_below}
-use Rattle.promise.specs.Exchange.{row_at, row_count, text_at, held_at, exchanged, exchanged_by, ClosedText}
+use Rattle.promise.specs.Exchange.{row_at, row_count, held_at, exchanged, exchanged_by, ClosedText}
 use Rattle.promise.specs.Pairing.{paired_bytes, paired_wires, paired_hash}
 use Rattle.promise.specs.Promise.{PairsBytes, SameReceived}
 use Rattle.promise.specs.Received.{received}

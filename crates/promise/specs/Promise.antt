@@ -5,14 +5,14 @@ use Rattle.circuit.specs.Refusals.{◌and_then◌}
 use Rattle.evaluate.specs.Evaluated.{OpensRight}
 use Rattle.garble.specs.Garbled.{TextHash}
 use Rattle.garble.specs.Interpretation.{BlockHash, interpretation}
-use Rattle.keys.specs.Drawing.{Bytes, drawn, key_of, coins_of, Lawful, DrawsLawful}
+use Rattle.keys.specs.Drawing.{Bytes, drawn, key_of, coins_of, Lawful}
 use Rattle.keys.specs.Files.{ByChosenAlone}
 use Rattle.keys.specs.declared.wires.WireKeys.{WireKeys}
 use Rattle.scheme.specs.Bytes.{Block}
 use Rattle.scheme.specs.Coins.{coins_of_pair}
 use Rattle.scheme.specs.Garbling.{Key, sent}
 use Rattle.scheme.specs.Yao.{yao}
-use Rattle.promise.specs.Received.{Received, received, as_files}
+use Rattle.promise.specs.Received.{received, as_files}
 use Rattle.promise.specs.Pairing.{paired_bytes, paired_wires, paired_hash}
 use Rattle.promise.specs.Exchange.{row_count, text_at, ClosedText}
 use Rattle.promise.specs.Simulation.{simulated, tape_for, simulated_hash, maker's_hash}

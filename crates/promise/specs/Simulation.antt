@@ -9,7 +9,7 @@ use Rattle.garble.specs.Garbled.{TextHash, closed_row}
 use Rattle.keys.specs.Drawing.{drawn, key_of, coins_of}
 use Rattle.keys.specs.Files.{keys_file}
 use Rattle.keys.specs.declared.wires.WireKeys.{WireKeys}
-use Rattle.scheme.specs.Coins.{◌⊕◌, colour}
+use Rattle.scheme.specs.Coins.{◌⊕◌}
 use Rattle.scheme.specs.Garbling.{key, tabulate}
 use Rattle.scheme.specs.Simulation.{fake_tables}
 use Rattle.promise.specs.Exchange.{Held, held_at, exchanged_by}

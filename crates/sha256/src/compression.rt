@@ -1,7 +1,7 @@
 // The hash value after one block, from the one before it.
 ghost use Rattle.std.specs.Prelude.{◌≡◌, ℕ, ◌+◌, ◌<◌, ◌++◌};
 ghost use Rattle.sha256.specs.Words.{◌⊞◌, σ₀, σ₁};
-ghost use Rattle.sha256.specs.Hash.{next, round as roundOf, sums as sumsOf, compressed};
+ghost use Rattle.sha256.specs.Hash.{next, round as round_of, sums as sums_of, compressed};
 ghost use Rattle.sha256.specs.Turns.{turns, Follows};
 
 use crate::words::{big_sigma0, big_sigma1, choice, majority, small_sigma0, small_sigma1};
@@ -86,7 +86,7 @@ pub(crate) const START: [u32; 8] = [
 ];
 
 fn round(s: [u32; 8], k: u32, w: u32) -> [u32; 8]
-    ensures { result ≡ roundOf s k w }
+    ensures { result ≡ round_of s k w }
 {
     let [a, b, c, d, e, f, g, h] = s;
     let t1 = h
@@ -157,7 +157,7 @@ fn sixteen_rounds(s: [u32; 8], w: [u32; 16], t: usize) -> [u32; 8]
 }
 
 fn sums(s: [u32; 8], t: [u32; 8]) -> [u32; 8]
-    ensures { result ≡ sumsOf s t }
+    ensures { result ≡ sums_of s t }
 {
     [
         s[0].wrapping_add(t[0]),

@@ -1,6 +1,6 @@
 // The functions on words.
 ghost use Rattle.std.specs.Prelude.{◌≡◌};
-ghost use Rattle.sha256.specs.Words.{choice as choice_of, majority as majorityOf, Σ₀, Σ₁, σ₀, σ₁};
+ghost use Rattle.sha256.specs.Words.{choice as choice_of, majority as majority_of, Σ₀, Σ₁, σ₀, σ₁};
 
 pub(crate) fn choice(x: u32, y: u32, z: u32) -> u32
     ensures { result ≡ choice_of x y z }
@@ -9,7 +9,7 @@ pub(crate) fn choice(x: u32, y: u32, z: u32) -> u32
 }
 
 pub(crate) fn majority(x: u32, y: u32, z: u32) -> u32
-    ensures { result ≡ majorityOf x y z }
+    ensures { result ≡ majority_of x y z }
 {
     (x & y) ^ (x & z) ^ (y & z)
 }
