@@ -2,7 +2,7 @@
 #![tactic(auto)]
 
 ghost use Rattle.std.specs.Prelude.{◌≡◌, ◌+◌, ◌<◌, ◌++◌, IfOk, vec_items, string_bytes, OnOk};
-ghost use Rattle.circuit.specs.Numbers.{bit as number_of};
+ghost use Rattle.circuit.specs.Numbers.{bit as value_of};
 ghost use Rattle.circuit.specs.Refusals.{Answers};
 ghost use Rattle.bits.specs.Texts.{bit_of, bits_text, values_text, line_without_end, line_text, line_of, LineBack};
 
@@ -80,7 +80,7 @@ pub fn read_line(heap: Global, count: usize, text: &[u8]) -> Result<Vec<bool>, F
 }
 
 fn digit_of(bit: bool) -> char
-    ensures { result ≡ 48 + number_of bit }
+    ensures { result ≡ 48 + value_of bit }
 {
     if bit { '1' } else { '0' }
 }

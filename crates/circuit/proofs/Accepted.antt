@@ -1,4 +1,4 @@
--- What the reader accepts is well_formed, and its bytes are those that write it: for each part, for many parts, for the whole. Assumes nothing.
+-- What the reader accepts is well-formed, and its bytes are those that write it: for each part, for many parts, for the whole. Assumes nothing.
 use Rattle.std.proofs.Common.{◌≡◌, ℕ, zero, suc, ◌+◌, ◌<◌, ◌≤◌, Bool, true, false, cond, ◌&&◌, eqb, ltb, leb, List, [], ◌∷◌, ◌++◌, length, get_or, take, drop, Some, None, Ok, sym, refl, ap, ◌∙◌, append_assoc, arith}
 use Rattle.std.specs.Int.Digits.{number_from_digits, AllBelowBase}
 use Rattle.std.specs.List.{flat_map}

@@ -1,4 +1,4 @@
--- A boolean circuit, when it is well_formed, and what it computes. Assumes nothing.
+-- A boolean circuit, when it is well-formed, and what it computes. Assumes nothing.
 use Rattle.std.specs.Prelude.{◌≡◌, ℕ, ◌+◌, ◌<◌, ◌≤◌, Bool, false, List, [], ◌∷◌, ◌++◌, map, length, take, slice_index, slice_index_or}
 use Rattle.circuit.specs.Numbers.{binary}
 use Rattle.circuit.specs.declared.gates.Gate.{Gate}

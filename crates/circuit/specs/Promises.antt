@@ -9,7 +9,7 @@ use Rattle.circuit.specs.Refusals.{Answers}
 use Rattle.circuit.specs.declared.refusals.Failure.{Failure}
 use Rattle.circuit.specs.declared.sheets.Sheet.{Sheet}
 
--- what a text is accepted as is well_formed, and the text is the one that writes it
+-- what a text is accepted as is well-formed, and the text is the one that writes it
 pub record Accepts (text : List ℕ) : Type 0 where
   pub well_formed : (c : Circuit) → parse text ≡ Ok c → WellFormed c
   pub one_text : (c : Circuit) → parse text ≡ Ok c → encode c ≡ text
