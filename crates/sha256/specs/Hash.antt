@@ -1,5 +1,5 @@
 -- SHA-256, as FIPS 180-4 defines it: from a block of sixteen words to the hash value, and from a text's bytes to its digest's. Assumes nothing.
-use Rattle.std.specs.Prelude.{ℕ, zero, suc, ◌+◌, ◌-◌, ◌*◌, ◌/◌, ◌%◌, List, [], ◌∷◌, ◌++◌, map, length, take, drop, replicate, slice_index, slice_index_or}
+use Rattle.std.specs.Prelude.{ℕ, zero, suc, ◌+◌, ◌-◌, ◌*◌, ◌/◌, ◌%◌, List, [], ◌∷◌, ◌++◌, map, length, take, drop, replicate, slice_index}
 use Rattle.std.specs.List.{range_with_len, flat_map}
 use Rattle.std.specs.Int.Digits.{number_from_digits}
 use Rattle.circuit.specs.Numbers.{digits}
@@ -26,7 +26,7 @@ start =
 
 -- word number t of the message schedule, from those before it
 abbrev pub next : List ℕ → ℕ → ℕ
-next w t = σ₁ (slice_index w (t - 2)) ⊞ slice_index_or w (t - 7) 0 ⊞ σ₀ (slice_index w (t - 15)) ⊞ slice_index_or w (t - 16) 0
+next w t = σ₁ (slice_index w (t - 2)) ⊞ slice_index w (t - 7) ⊞ σ₀ (slice_index w (t - 15)) ⊞ slice_index w (t - 16)
 
 -- n words more than the sixteen
 unfoldable pub extended : ℕ → List ℕ → List ℕ
@@ -38,14 +38,14 @@ schedule m = extended 48 m
 
 -- a round takes the eight working variables, its constant and its word of the schedule
 abbrev pub t₁ : List ℕ → ℕ → ℕ → ℕ
-t₁ s k w = slice_index_or s 7 0 ⊞ Σ₁ (slice_index s 4) ⊞ choice (slice_index s 4) (slice_index s 5) (slice_index s 6) ⊞ k ⊞ w
+t₁ s k w = slice_index s 7 ⊞ Σ₁ (slice_index s 4) ⊞ choice (slice_index s 4) (slice_index s 5) (slice_index s 6) ⊞ k ⊞ w
 
 abbrev pub t₂ : List ℕ → ℕ
 t₂ s = Σ₀ (slice_index s 0) ⊞ majority (slice_index s 0) (slice_index s 1) (slice_index s 2)
 
 abbrev pub round : List ℕ → ℕ → ℕ → List ℕ
 round s k w =
-    (t₁ s k w ⊞ t₂ s) ∷ slice_index s 0 ∷ slice_index s 1 ∷ slice_index s 2 ∷ (slice_index_or s 3 0 ⊞ t₁ s k w) ∷ slice_index s 4 ∷ slice_index s 5 ∷ slice_index s 6 ∷ []
+    (t₁ s k w ⊞ t₂ s) ∷ slice_index s 0 ∷ slice_index s 1 ∷ slice_index s 2 ∷ (slice_index s 3 ⊞ t₁ s k w) ∷ slice_index s 4 ∷ slice_index s 5 ∷ slice_index s 6 ∷ []
 
 -- the first n rounds
 unfoldable pub rounds : ℕ → List ℕ → List ℕ → List ℕ
@@ -53,7 +53,7 @@ rounds zero w s = s
 rounds (suc n) w s = round (rounds n w s) (slice_index constants n) (slice_index w n)
 
 abbrev pub sums : List ℕ → List ℕ → List ℕ
-sums s t = map (λ i. slice_index_or s i 0 ⊞ slice_index_or t i 0) (range_with_len 0 8)
+sums s t = map (λ i. slice_index s i ⊞ slice_index t i) (range_with_len 0 8)
 
 -- the hash value after the block m, from the one before it
 unfoldable pub compressed : List ℕ → List ℕ → List ℕ
