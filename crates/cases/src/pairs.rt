@@ -94,7 +94,7 @@ fn the_first_output_that_differs(rt: HostRuntime) -> Result<(), Fail> {
 // The number of a failure.
 fn number(failure: Failure) -> Result<u8, Fail> {
     match failure {
-        Failure::Refused(refusal) => Ok(refusal.number()),
+        Failure::Refused(refusal) => Ok(u8::from(refusal)),
         Failure::Memory => Err(Fail::new("out of memory")),
     }
 }

@@ -60,7 +60,7 @@ fn digit(b: u8) -> Option<u8> {
 fn number(heap: Global, text: &[u8]) -> Result<u8, Fail> {
     match Sheet::read(heap, text) {
         Ok(_) => Ok(0),
-        Err(Failure::Refused(refusal)) => Ok(refusal.number()),
+        Err(Failure::Refused(refusal)) => Ok(u8::from(refusal)),
         Err(Failure::Memory) => Err(Fail::new("out of memory")),
     }
 }

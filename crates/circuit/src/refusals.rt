@@ -4,6 +4,7 @@ ghost use Rattle.circuit.specs.Refusals.{number_of};
 ghost use Rattle.circuit.specs.declared.refusals.Failure.TheVariants.{Memory, Refused};
 
 use std::alloc::AllocError;
+use std::fmt;
 
 // What is wrong with an input.
 #[derive(Clone, Copy, PartialEq, Eq, Debug)]
@@ -20,18 +21,24 @@ pub enum Refusal {
     Values,
 }
 
-impl Refusal {
-    // The number that a refusal is told by.
-    pub fn number(self) -> u8
-        ensures { result ≡ number_of self }
-    {
-        match self {
+// The number that a refusal is told by.
+impl From<Refusal> for u8 {
+    ghost from_gives = { λ e n. n ≡ number_of e };
+
+    fn from(e: Refusal) -> u8 {
+        match e {
             Refusal::Malformed => 1,
             Refusal::Count => 2,
             Refusal::NotMade => 3,
             Refusal::Table => 4,
             Refusal::Values => 7,
         }
+    }
+}
+
+impl fmt::Display for Refusal {
+    fn fmt<W: fmt::Write>(&self, f: &mut fmt::Formatter<W>) -> fmt::Result {
+        write!(f, "refused: {}", u8::from(*self))
     }
 }
 

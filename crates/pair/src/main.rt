@@ -67,10 +67,7 @@ impl fmt::Display for Stop {
                 f,
                 "usage: pair SHEET FIRST SECOND COINS (more by pair --help)"
             ),
-            Stop::Refused(refusal) => {
-                let number = refusal.number();
-                write!(f, "refused: {number}")
-            }
+            Stop::Refused(refusal) => write!(f, "{refusal}"),
             Stop::Memory => write!(f, "pair: out of memory"),
             Stop::Unreadable(path, e) => write!(f, "pair: cannot read {path}: {e}"),
             Stop::Io(e) => write!(f, "pair: {e}"),
