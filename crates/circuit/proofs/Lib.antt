@@ -6,5 +6,4 @@ pub mod Many
 mod Accepted
 mod Written
 mod Drafts
-pub mod Writes
 pub mod Lawful

@@ -1,17 +1,10 @@
 -- The loop that reads one part after the other: its start, a turn, a fault in a part, and its end. Assumes nothing.
-use Rattle.std.proofs.Common.{◌≡◌, ℕ, suc, ◌+◌, ◌-◌, ◌<◌, ◌≤◌, Bool, true, false, cond, List, [], ◌∷◌, ◌++◌, Ok, Err, vec_items, vec_len, Vec, sym, refl, ap, ◌∙◌, append_assoc, add-zero, arith}
-use native.Mathlib.Nat.{sub-zero}
+use Rattle.std.proofs.Common.{◌≡◌, ℕ, suc, ◌+◌, ◌-◌, ◌<◌, ◌≤◌, List, [], ◌∷◌, ◌++◌, IfOk, Ok, Err, vec_items, Result, Vec, sym, refl, ap, ◌∙◌, append_assoc, arith}
+use Rattle.std.specs.declared.alloc.AllocError.{AllocError}
 use Rattle.std.proofs.lemmas.List.{append-nil}
 use Rattle.circuit.specs.Format.{Part, many}
-use Rattle.circuit.specs.Kept.{Holds}
+use Rattle.circuit.specs.Kept.{OneMore}
 use Rattle.circuit.specs.Refusals.{◌and_then◌}
-
--- one item more, if it found memory
-pub kept_push : {X Z : Type 0} (b : Bool) (i : ℕ) (v w : Vec X Z) (acc : List X) (x : X) → vec_len v ≤ i → Holds i v acc →
-    vec_items w ≡ cond b (vec_items v ++ (x ∷ [])) (vec_items v) → vec_len w ≡ cond b (vec_len v + 1) (vec_len v) →
-    (vec_len w ≤ i + 1) × Holds (i + 1) w (acc ++ (x ∷ []))
-kept_push true i v w acc x few holds items len = (omega arith, λ e. let h : vec_len v ≡ i = omega arith in items ∙ rw (holds h))
-kept_push false i v w acc x few holds items len = (omega arith, λ e. absurd (omega arith))
 
 -- items in front of those that a reader gives
 abbrev after : {X : Type 0} → List X → Part (List X) → Part (List X)
@@ -25,38 +18,42 @@ after_more : {X : Type 0} (acc : List X) (x : X) (m : Part (List X)) → after a
 after_more acc x (Ok q) = ap (λ l. Ok (l, q.1)) (sym (append_assoc acc (x ∷ []) q.0))
 after_more acc x (Err n) = refl
 
-module _ {X Z : Type 0} (one : ℕ → List ℕ → Part X) where
-  -- after i of n parts: what is left gives what the whole gives, and the vector has the items so far, or too few
-  abbrev pub Going : ℕ → ℕ → List ℕ → ℕ → Vec X Z → List ℕ → Type 0
-  Going n k text i v rest = (acc : List X) × (many one n k text ≡ after acc (many one (n - i) (k + i) rest)) × (vec_len v ≤ i) × Holds i v acc
+-- these items, unless memory ran out
+abbrev pub Are : {X Z : Type 0} → Result (Vec X Z) AllocError → List X → Type 0
+Are r xs = IfOk r (λ v. vec_items v ≡ xs)
 
-  pub going_none : (n k : ℕ) (text : List ℕ) (v : Vec X Z) → vec_items v ≡ [] → vec_len v ≡ 0 → Going n k text 0 v text
-  going_none n k text v e f = ([], rw (sub-zero n, add-zero k) (after_none (many one n k text)), omega arith, λ _. e)
+are_more : {X Z : Type 0} (items r : Result (Vec X Z) AllocError) (acc : List X) (x : X) → Are items acc → OneMore items x r → Are r (acc ++ (x ∷ []))
+are_more items (Ok v) acc x are more = more.2 ∙ ap (λ l. l ++ (x ∷ [])) (rw more.1 at are)
+are_more items (Err e) acc x are more = tt
 
-  pub going_more : {ys : List ℕ} {x : X} (n k : ℕ) (text : List ℕ) (i : ℕ) (v w : Vec X Z) (rest : List ℕ) (b : Bool) → i < n →
-      Going n k text i v rest → Ok (x, ys) ≡ one (k + i) rest →
-      vec_items w ≡ cond b (vec_items v ++ (x ∷ [])) (vec_items v) → vec_len w ≡ cond b (vec_len v + 1) (vec_len v) → Going n k text (i + 1) w ys
+module _ {X Z : Type 0} (one : ℕ → List ℕ → Part X) (end first : ℕ) (text : List ℕ) where
+  -- before part i: what is left gives what the whole gives after the items so far
+  abbrev pub Going : ℕ → Result (Vec X Z) AllocError → List ℕ → Type 0
+  Going i items rest = (acc : List X) × (many one (end - first) first text ≡ after acc (many one (end - i) i rest)) × Are items acc
+
+  pub going_none : (v : Vec X Z) → vec_items v ≡ [] → Going first (Ok v) text
+  going_none v e = ([], after_none (many one (end - first) first text), e)
+
+  pub going_more : {ys : List ℕ} {x : X} (i : ℕ) (items more : Result (Vec X Z) AllocError) (rest : List ℕ) → i < end →
+      Going i items rest → Ok (x, ys) ≡ one i rest → OneMore items x more → Going (i + 1) more ys
   unfolding many
-  going_more {ys} {x} n k text i v w rest b below going e items len =
-      let left : n - i ≡ suc (n - (i + 1)) = omega arith in
-      let next : k + (i + 1) ≡ k + i + 1 = omega arith in
-      let push = kept_push b i v w going.0 x going.2 going.3 items len in (
+  going_more {ys} {x} i items more rest below going e push =
+      let left : end - i ≡ suc (end - (i + 1)) = omega arith in (
         going.0 ++ (x ∷ []),
-        rw next ((rw (left, ← e) at going.1) ∙ after_more going.0 x (many one (n - (i + 1)) (k + i + 1) ys)),
-        push.0,
-        push.1,
+        (rw (left, ← e) at going.1) ∙ after_more going.0 x (many one (end - (i + 1)) (i + 1) ys),
+        are_more items more going.0 x going.2 push,
       )
 
-  pub going_fault : {e : ℕ} (n k : ℕ) (text : List ℕ) (i : ℕ) (v : Vec X Z) (rest : List ℕ) → i < n →
-      Going n k text i v rest → Err e ≡ one (k + i) rest → many one n k text ≡ Err e
+  pub going_fault : {e : ℕ} (i : ℕ) (items : Result (Vec X Z) AllocError) (rest : List ℕ) → i < end →
+      Going i items rest → Err e ≡ one i rest → many one (end - first) first text ≡ Err e
   unfolding many
-  going_fault n k text i v rest below going e =
-      let left : n - i ≡ suc (n - (i + 1)) = omega arith in
+  going_fault i items rest below going e =
+      let left : end - i ≡ suc (end - (i + 1)) = omega arith in
       rw (left, ← e) at going.1
 
-  pub going_all : (n k : ℕ) (text : List ℕ) (i : ℕ) (v : Vec X Z) (rest : List ℕ) → n ≡ i → Going n k text i v rest →
-      (xs : List X) × (many one n k text ≡ Ok (xs, rest)) × Holds n v xs
+  pub going_all : (i : ℕ) (items : Result (Vec X Z) AllocError) (rest : List ℕ) → end ≤ i → Going i items rest →
+      (xs : List X) × (many one (end - first) first text ≡ Ok (xs, rest)) × Are items xs
   unfolding many
-  going_all n k text i v rest same going =
-      let none : n - i ≡ 0 = omega arith in
-      (going.0, (rw none at going.1) ∙ ap (λ l. Ok (l, rest)) (append-nil going.0), rw same going.3)
+  going_all i items rest done going =
+      let none : end - i ≡ 0 = omega arith in
+      (going.0, (rw none at going.1) ∙ ap (λ l. Ok (l, rest)) (append-nil going.0), going.2)

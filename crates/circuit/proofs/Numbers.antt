@@ -1,16 +1,18 @@
 -- Digits of a fixed count: written out at the counts that the format has, and back and forth between a number and its digits. Assumes nothing.
 use Rattle.std.proofs.Common.{◌≡◌, ℕ, zero, suc, ◌+◌, ◌*◌, ◌/◌, ◌%◌, ◌^◌, ◌<◌, Bool, true, false, eqb, List, [], ◌∷◌, ◌++◌, map, length, get_or, take, sym, refl, ap, ◌∙◌, pow-suc, add-one, arith}
 use native.Mathlib.Nat.{pow-zero}
+use Rattle.std.specs.Int.{bit_at}
 use Rattle.std.specs.Int.Digits.{number_from_digits, AllBelowBase}
+use Rattle.std.proofs.Math.Nat.{div-one}
 use Rattle.std.proofs.lemmas.Nat.{mod_below, shr-shr, div-add-mod', div_below, div-mul-add, mod-mul-add}
 use Rattle.std.proofs.lemmas.Int.Digits.{number_push, number_lt}
 use Rattle.std.proofs.ByRecursion.{All-take, All-get_or, All-push}
 use Rattle.std.proofs.lemmas.List.{length_push, length-map, length-take-le, take_more, take_all, nil_from_length}
 use Rattle.circuit.specs.Numbers.{digits, bit, bits, binary}
 
-pub four_bits : (x : ℕ) → bits 4 x ≡ eqb (x / 8 % 2) 1 ∷ eqb (x / 4 % 2) 1 ∷ eqb (x / 2 % 2) 1 ∷ eqb (x % 2) 1 ∷ []
+pub four_bits : (x : ℕ) → bits 4 x ≡ eqb (bit_at x 3) 1 ∷ eqb (bit_at x 2) 1 ∷ eqb (bit_at x 1) 1 ∷ eqb (bit_at x 0) 1 ∷ []
 unfolding digits
-four_bits x = rw (shr-shr x 1 1, shr-shr x 2 1)
+four_bits x = rw (shr-shr x 1 1, shr-shr x 2 1, div-one x)
 
 pub one_byte : (x : ℕ) → x < 256 → digits 256 1 x ≡ x ∷ []
 unfolding digits

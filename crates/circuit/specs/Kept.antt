@@ -1,14 +1,10 @@
--- What private readers promise: a rest that is lent, and items of which some are lost where memory ran out. No public promise cites it. Assumes nothing.
-use Rattle.std.specs.Prelude.{◌≡◌, ℕ, true, List, is_ok, Some, None, Ok, Err, vec_items, vec_len, Option, Result, Vec}
+-- What private readers promise: a rest that is lent, and items unless memory ran out. No public promise cites it. Assumes nothing.
+use Rattle.std.specs.Prelude.{◌≡◌, ℕ, List, [], ◌∷◌, ◌++◌, Some, None, IfOk, Ok, Err, vec_items, Option, Result, Vec}
 use Rattle.std.specs.Borrow.{Bor}
-use Rattle.circuit.specs.Circuit.{Circuit}
-use Rattle.circuit.specs.Format.{Part, assembled}
-use Rattle.circuit.specs.Meaning.{circuit_of}
+use Rattle.std.specs.declared.alloc.AllocError.{AllocError}
+use Rattle.circuit.specs.Format.{Part}
 use Rattle.circuit.specs.Refusals.{Answer, refuse}
-use Rattle.circuit.specs.declared.gates.Gate.{Gate}
-use Rattle.circuit.specs.declared.reading.Draft.{Draft}
 use Rattle.circuit.specs.declared.refusals.Refusal.{Refusal}
-use Rattle.circuit.specs.declared.sheets.Sheet.{Sheet}
 
 -- a value beside a lent rest, as a value and a list
 abbrev pub lent_front : {X : Type 0} → Option (X × Bor (List ℕ)) → Option (X × List ℕ)
@@ -23,22 +19,15 @@ abbrev pub lent_rest : Result (Bor (List ℕ)) Refusal → Answer (List ℕ)
 lent_rest (Ok p) = Ok p.now
 lent_rest (Err e) = refuse e
 
--- a vector that has n items has all of xs: one that is shorter lost some
-abbrev pub Holds : {X Z : Type 0} → ℕ → Vec X Z → List X → Type 0
-Holds n v xs = vec_len v ≡ n → vec_items v ≡ xs
+-- each answer of a reader of parts is what is meant
+abbrev pub ReadsAs : {X : Type 0} → (ℕ → Bor (List ℕ) → Result (X × Bor (List ℕ)) Refusal → Type 0) → (ℕ → List ℕ → Part X) → Type 0
+ReadsAs {X} post one = (i : ℕ) (xs : Bor (List ℕ)) (r : Result (X × Bor (List ℕ)) Refusal) → post i xs r → lent r ≡ one i xs.now
 
--- the fault, or the items so held and the rest
-abbrev pub Kept : {X Z : Type 0} → ℕ → Result (Vec X Z × Bor (List ℕ)) Refusal → Part (List X) → Type 0
-Kept {X} n (Ok p) m = (xs : List X) × (m ≡ Ok (xs, p.1.now)) × Holds n p.0 xs
-Kept n (Err e) m = m ≡ refuse e
+-- one item more, if there were all before it
+abbrev pub OneMore : {X Z : Type 0} → Result (Vec X Z) AllocError → X → Result (Vec X Z) AllocError → Type 0
+OneMore {X} {Z} items x r = IfOk r (λ v. (was : Vec X Z) × (items ≡ Ok was) × (vec_items v ≡ vec_items was ++ (x ∷ [])))
 
--- the same of a whole sheet
-abbrev pub Drafted : Result Draft Refusal → Answer Circuit → Type 0
-Drafted (Ok d) m =
-    (gs : List Gate) × (ws : List ℕ) × (m ≡ Ok (assembled d.head gs ws)) × Holds d.head.gates d.gates gs × Holds d.count d.outputs ws
-Drafted (Err e) m = m ≡ refuse e
-
--- a sheet, or none where memory ran out
-abbrev pub Found : Option Sheet → Answer Circuit → Type 0
-Found (Some s) m = m ≡ Ok (circuit_of s)
-Found None m = is_ok m ≡ true
+-- the fault, or the rest and, unless memory ran out, the items
+abbrev pub Kept : {X Z : Type 0} → Result (Result (Vec X Z) AllocError × Bor (List ℕ)) Refusal → Part (List X) → Type 0
+Kept {X} (Ok p) m = (xs : List X) × (m ≡ Ok (xs, p.1.now)) × IfOk p.0 (λ v. vec_items v ≡ xs)
+Kept (Err e) m = m ≡ refuse e

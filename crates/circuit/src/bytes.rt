@@ -1,31 +1,15 @@
-// Numbers at the front of a text, high byte first.
-ghost use Rattle.std.specs.Prelude.{◌≡◌};
+// Numbers in a text, high byte first.
+ghost use Rattle.std.specs.Prelude.{◌≡◌, ◌≤◌};
 ghost use Rattle.circuit.specs.Kept.{lent_front};
 ghost use Rattle.circuit.specs.Numbers.{front};
 
-pub(crate) fn byte(text: &[u8]) -> Option<(u8, &[u8])>
-    ensures { lent_front result ≡ front 1 text.now }
+// The number that the first N bytes of a text write, and what is left of the text.
+pub(crate) fn number<const N: usize>(text: &[u8]) -> Option<(u32, &[u8])>
+    requires { N ≤ 4 }
+    ensures { lent_front result ≡ front N text.now }
 {
-    let Some(([first], rest)) = text.split_first_chunk::<1>() else {
-        return None;
-    };
-    Some((*first, rest))
-}
-
-pub(crate) fn half(text: &[u8]) -> Option<(u16, &[u8])>
-    ensures { lent_front result ≡ front 2 text.now }
-{
-    let Some((bytes, rest)) = text.split_first_chunk::<2>() else {
-        return None;
-    };
-    Some((u16::from_be_bytes(*bytes), rest))
-}
-
-pub(crate) fn word(text: &[u8]) -> Option<(u32, &[u8])>
-    ensures { lent_front result ≡ front 4 text.now }
-{
-    let Some((bytes, rest)) = text.split_first_chunk::<4>() else {
-        return None;
-    };
-    Some((u32::from_be_bytes(*bytes), rest))
+    let (bytes, rest) = text.split_first_chunk::<N>()?;
+    let mut word = [0; 4];
+    word[4 - N..].copy_from_slice(bytes);
+    Some((u32::from_be_bytes(word), rest))
 }

@@ -1,62 +1,51 @@
 // A sheet from its bytes: each part is read to its end or its first fault.
-ghost use Rattle.std.specs.Prelude.{◌≡◌, ◌≤◌, MatchResult};
-ghost use Rattle.circuit.specs.Circuit.{most_inputs, most_gates};
+ghost use Rattle.std.specs.Prelude.{◌≡◌, ◌-◌, ◌≤◌, IfOk, vec_items};
 ghost use Rattle.circuit.specs.Format.{kind, count, wire, gate, head, many, parse};
-ghost use Rattle.circuit.specs.Kept.{lent, lent_rest, Kept, Drafted, Found};
+ghost use Rattle.circuit.specs.Kept.{lent, lent_rest, ReadsAs, Kept, OneMore};
+ghost use Rattle.circuit.specs.Meaning.{circuit_of};
 ghost use Rattle.circuit.specs.Numbers.{bits};
-ghost use Rattle.circuit.specs.Refusals.{refuse};
+ghost use Rattle.circuit.specs.Refusals.{Answers};
 ghost use Rattle.circuit.specs.Promises.{Accepts, Reads};
 
-use crate::bytes::{byte, half, word};
+use crate::bytes::number;
 use crate::gates::Gate;
 use crate::refusals::{Failure, Refusal};
 use crate::sheets::Sheet;
-use std::alloc::Global;
+use std::alloc::{AllocError, Global};
+use std::array;
 
 // The kind that a sheet's text begins with.
 pub(crate) const SHEET: u8 = 1;
 
-const MOST_INPUTS: u16 = 1024;
+const MOST_INPUTS: u32 = 1024;
 
 const MOST_GATES: u32 = 65536;
 
-const MOST_OUTPUTS: u16 = 1024;
+const MOST_OUTPUTS: u32 = 1024;
 
 // The counts before the gates.
 #[derive(Clone, Copy)]
 struct Head {
-    inputs: u16,
-    opener: u16,
+    inputs: u32,
+    opener: u32,
     gates: u32,
 }
 
 fn kind_in(text: &[u8]) -> Result<&[u8], Refusal>
     ensures { lent_rest result ≡ kind 1 text.now }
 {
-    let Some((SHEET, rest)) = byte(text) else {
+    let Some((&SHEET, rest)) = text.split_first() else {
         return Err(Refusal::Malformed);
     };
     Ok(rest)
 }
 
-// A count of two bytes, at most `most`.
-fn count_in(most: u16, text: &[u8]) -> Result<(u16, &[u8]), Refusal>
-    ensures { lent result ≡ count 2 most text.now }
+// A count of N bytes, at most `most`.
+fn count_in<const N: usize>(most: u32, text: &[u8]) -> Result<(u32, &[u8]), Refusal>
+    requires { N ≤ 4 }
+    ensures { lent result ≡ count N most text.now }
 {
-    let Some((n, rest)) = half(text) else {
-        return Err(Refusal::Malformed);
-    };
-    if n > most {
-        return Err(Refusal::Count);
-    }
-    Ok((n, rest))
-}
-
-// A count of four bytes, at most `most`.
-fn long_count_in(most: u32, text: &[u8]) -> Result<(u32, &[u8]), Refusal>
-    ensures { lent result ≡ count 4 most text.now }
-{
-    let Some((n, rest)) = word(text) else {
+    let Some((n, rest)) = number::<N>(text) else {
         return Err(Refusal::Malformed);
     };
     if n > most {
@@ -69,7 +58,7 @@ fn long_count_in(most: u32, text: &[u8]) -> Result<(u32, &[u8]), Refusal>
 fn wire_in(made: u32, text: &[u8]) -> Result<(u32, &[u8]), Refusal>
     ensures { lent result ≡ wire made text.now }
 {
-    let Some((n, rest)) = word(text) else {
+    let Some((n, rest)) = number::<4>(text) else {
         return Err(Refusal::Malformed);
     };
     if n >= made {
@@ -79,28 +68,23 @@ fn wire_in(made: u32, text: &[u8]) -> Result<(u32, &[u8]), Refusal>
 }
 
 // The four bits of a truth table.
-fn table_of(gives: u8) -> [bool; 4]
+fn table_of(gives: u32) -> [bool; 4]
     ensures { result ≡ bits 4 gives }
 {
-    [
-        gives / 8 % 2 == 1,
-        gives / 4 % 2 == 1,
-        gives / 2 % 2 == 1,
-        gives % 2 == 1,
-    ]
+    array::from_fn(|i| gives >> (3 - i) & 1 == 1)
 }
 
 // A gate is read whole: of its faults the lowest number wins.
 fn gate_in(made: u32, text: &[u8]) -> Result<(Gate, &[u8]), Refusal>
     ensures { lent result ≡ gate made text.now }
 {
-    let Some((left, rest)) = word(text) else {
+    let Some((left, rest)) = number::<4>(text) else {
         return Err(Refusal::Malformed);
     };
-    let Some((right, rest)) = word(rest) else {
+    let Some((right, rest)) = number::<4>(rest) else {
         return Err(Refusal::Malformed);
     };
-    let Some((gives, rest)) = byte(rest) else {
+    let Some((gives, rest)) = number::<1>(rest) else {
         return Err(Refusal::Malformed);
     };
     if left >= made || right >= made {
@@ -120,9 +104,9 @@ fn head_in(text: &[u8]) -> Result<(Head, &[u8]), Refusal>
     ensures { lent result ≡ head text.now }
 {
     let rest = kind_in(text)?;
-    let (inputs, rest) = count_in(MOST_INPUTS, rest)?;
-    let (opener, rest) = count_in(inputs, rest)?;
-    let (gates, rest) = long_count_in(MOST_GATES, rest)?;
+    let (inputs, rest) = count_in::<2>(MOST_INPUTS, rest)?;
+    let (opener, rest) = count_in::<2>(inputs, rest)?;
+    let (gates, rest) = count_in::<4>(MOST_GATES, rest)?;
     Ok((
         Head {
             inputs,
@@ -133,93 +117,67 @@ fn head_in(text: &[u8]) -> Result<(Head, &[u8]), Refusal>
     ))
 }
 
-// As many gates as are told. One that finds no memory is left out, so that a fault further on is still found.
-fn gates_in(heap: Global, n: u32, inputs: u32, text: &[u8]) -> Result<(Vec<Gate>, &[u8]), Refusal>
-    requires { (n ≤ most_gates) × (inputs ≤ most_inputs) }
-    ensures { Kept n result (many gate n inputs text.now) }
+// What was read so far with one item more, or the error once memory ran out.
+fn one_more<T: Drop>(items: Result<Vec<T>, AllocError>, item: T) -> Result<Vec<T>, AllocError>
+    ensures { OneMore items item result }
 {
-    let mut gates = Vec::new(heap);
+    let mut items = items?;
+    items.push(item)?;
+    Ok(items)
+}
+
+// The parts numbered from `first` to before `end`. Where memory runs out they are read on, since a fault further on is still a fault.
+fn many_in<T: Drop, F: Fn(u32, &[u8]) -> Result<(T, &[u8]), Refusal>>(
+    heap: Global,
+    first: u32,
+    end: u32,
+    read: F,
+    text: &[u8],
+) -> Result<(Result<Vec<T>, AllocError>, &[u8]), Refusal>
+    requires { F.IsAlwaysCallable read }
+    ensures { (one : _) → ReadsAs (F.post read) one → Kept result (many one (end - first) first text.now) }
+{
+    let mut items = Ok(Vec::new(heap));
     let mut rest = text;
-    for i in 0..n {
-        let (gate, after) = gate_in(inputs + i, rest)?;
-        let _ = gates.push(gate);
+    for i in first..end {
+        let (item, after) = read(i, rest)?;
+        items = one_more(items, item);
         rest = after;
     }
-    Ok((gates, rest))
+    Ok((items, rest))
 }
 
-// As many wires as are told, as for gates.
-fn wires_in(heap: Global, n: u16, made: u32, text: &[u8]) -> Result<(Vec<u32>, &[u8]), Refusal>
-    ensures { Kept n result (many (λ _. wire made) n 0 text.now) }
-{
-    let mut wires = Vec::new(heap);
-    let mut rest = text;
-    for i in 0..n {
-        let (wire, after) = wire_in(made, rest)?;
-        let _ = wires.push(wire);
-        rest = after;
-    }
-    Ok((wires, rest))
-}
-
-// What was read of a sheet: where memory ran out, some of it is missing.
-#[derive(Drop)]
-struct Draft {
-    head: Head,
-    gates: Vec<Gate>,
-    count: u16,
-    outputs: Vec<u32>,
-}
-
-fn draft_in(heap: Global, text: &[u8]) -> Result<Draft, Refusal>
-    ensures { Drafted result (parse text.now) }
+// A sheet, as far as memory holds.
+fn sheet_in(heap: Global, text: &[u8]) -> Result<Sheet, Failure>
+    ensures { Answers circuit_of result (parse text.now) }
 {
     let (head, rest) = head_in(text)?;
-    let inputs = u32::from(head.inputs);
-    let (gates, rest) = gates_in(heap, head.gates, inputs, rest)?;
-    let (count, rest) = count_in(MOST_OUTPUTS, rest)?;
-    let (outputs, rest) = wires_in(heap, count, inputs + head.gates, rest)?;
+    let made = head.inputs + head.gates;
+    let (gates, rest) = many_in(heap, head.inputs, made, gate_in, rest)?;
+    let (count, rest) = count_in::<2>(MOST_OUTPUTS, rest)?;
+    let (outputs, rest) = many_in(heap, 0, count, |_, text| wire_in(made, text), rest)?;
     if !rest.is_empty() {
-        return Err(Refusal::Malformed);
+        return Err(Failure::Refused(Refusal::Malformed));
     }
-    Ok(Draft {
-        head,
-        gates,
-        count,
-        outputs,
+    Ok(Sheet {
+        inputs: head.inputs as u16,
+        opener: head.opener as u16,
+        gates: gates?,
+        outputs: outputs?,
     })
 }
 
-// A sheet, or none where memory ran out.
-fn sheet_in(heap: Global, text: &[u8]) -> Result<Option<Sheet>, Refusal>
-    ensures found { MatchResult result (λ o. Found o (parse text.now)) (λ e. parse text.now ≡ refuse e) }
-    ensures laws { Accepts text.now }
-{
-    let Draft {
-        head,
-        gates,
-        count,
-        outputs,
-    } = draft_in(heap, text)?;
-    if gates.len() != head.gates as usize || outputs.len() != count as usize {
-        return Ok(None);
-    }
-    Ok(Some(Sheet {
-        inputs: head.inputs,
-        opener: head.opener,
-        gates,
-        outputs,
-    }))
-}
+// A law of every text, and no code: what it is accepted as is well-formed, and only this text is accepted as it.
+fn accepted(text: &[u8])
+    ensures { Accepts text.now }
+{}
 
 impl Sheet {
     // A sheet from its bytes, all of them.
     pub fn read(heap: Global, text: &[u8]) -> Result<Sheet, Failure>
         ensures { Reads text.now result }
     {
-        match sheet_in(heap, text)? {
-            Some(sheet) => Ok(sheet),
-            None => Err(Failure::Memory),
-        }
+        accepted(text);
+        sheet_in(heap, text)
     }
 }

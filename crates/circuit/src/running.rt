@@ -40,7 +40,7 @@ fn run_gates(known: &mut Vec<bool>, gates: &[Gate]) -> Result<(), AllocError>
     ensures { OnOk result (known.new.items ≡ extended gates.now known.old.items) }
 {
     for g in gates {
-        let value = gate_value(&g.wires, g.gives, known.as_slice());
+        let value = gate_value(&g.wires, g.gives, known);
         known.push(value)?;
     }
     Ok(())
@@ -51,11 +51,7 @@ fn values_at(heap: Global, known: &[bool], wires: &[u32]) -> Result<Vec<bool>, A
     requires { Below (length known.now) wires.now }
     ensures { IfOk result (λ v. v.items ≡ at_all known.now wires.now) }
 {
-    let mut found = Vec::new(heap);
-    for w in wires {
-        found.push(known[*w as usize])?;
-    }
-    Ok(found)
+    wires.iter().map(|w| known[*w as usize]).collect(heap)
 }
 
 fn all_values(heap: Global, sheet: &Sheet, inputs: &[bool]) -> Result<Vec<bool>, Failure>
@@ -63,7 +59,7 @@ fn all_values(heap: Global, sheet: &Sheet, inputs: &[bool]) -> Result<Vec<bool>,
     ensures { Evaluates sheet.now inputs.now result }
 {
     let mut known = inputs.to_vec(heap)?;
-    run_gates(&mut known, sheet.gates.as_slice())?;
+    run_gates(&mut known, &sheet.gates)?;
     Ok(known)
 }
 
@@ -89,6 +85,6 @@ impl Sheet {
         ensures { Runs self.now inputs.now result }
     {
         let known = self.values(heap, inputs)?;
-        Ok(values_at(heap, known.as_slice(), self.outputs.as_slice())?)
+        Ok(values_at(heap, &known, &self.outputs)?)
     }
 }

@@ -1,5 +1,5 @@
 // A sheet's bytes.
-ghost use Rattle.std.specs.Prelude.{◌≡◌, [], ◌∷◌, ◌++◌, Ok, OnOk};
+ghost use Rattle.std.specs.Prelude.{◌≡◌, ℕ, List, [], ◌∷◌, ◌++◌, Ok, OnOk};
 ghost use Rattle.std.specs.List.{flat_map};
 ghost use Rattle.circuit.specs.Meaning.{circuit_of};
 ghost use Rattle.circuit.specs.Format.{gate_bytes, body, encode, parse};
@@ -11,23 +11,50 @@ use crate::reading::SHEET;
 use crate::sheets::Sheet;
 use std::alloc::{AllocError, Global};
 
-fn put_half(text: &mut Vec<u8>, n: u16) -> Result<(), AllocError>
-    ensures { OnOk result (text.new.items ≡ text.old.items ++ digits 256 2 n) }
-{
-    text.extend_from_slice(&n.to_be_bytes())
+// What has bytes of its own in a text.
+trait Encode {
+    ghost bytes: { Self → List ℕ };
+
+    fn put(&self, text: &mut Vec<u8>) -> Result<(), AllocError>
+        ensures { OnOk result (text.new.items ≡ text.old.items ++ bytes self.now) };
 }
 
-fn put_word(text: &mut Vec<u8>, n: u32) -> Result<(), AllocError>
-    ensures { OnOk result (text.new.items ≡ text.old.items ++ digits 256 4 n) }
-{
-    text.extend_from_slice(&n.to_be_bytes())
+// Numbers stand high byte first.
+impl Encode for u16 {
+    ghost bytes = { digits 256 2 };
+
+    #[tactic(auto, using(crate::proofs::Numbers::two_bytes))]
+    fn put(&self, text: &mut Vec<u8>) -> Result<(), AllocError> {
+        text.extend_from_slice(&self.to_be_bytes())
+    }
 }
 
-fn put_wires(text: &mut Vec<u8>, wires: &[u32]) -> Result<(), AllocError>
-    ensures { OnOk result (text.new.items ≡ text.old.items ++ flat_map (digits 256 4) wires.now) }
+impl Encode for u32 {
+    ghost bytes = { digits 256 4 };
+
+    #[tactic(auto, using(crate::proofs::Numbers::four_bytes))]
+    fn put(&self, text: &mut Vec<u8>) -> Result<(), AllocError> {
+        text.extend_from_slice(&self.to_be_bytes())
+    }
+}
+
+impl Encode for Gate {
+    ghost bytes = { gate_bytes };
+
+    fn put(&self, text: &mut Vec<u8>) -> Result<(), AllocError> {
+        put_all(text, &self.wires)?;
+        let [a, b, c, d] = self.gives;
+        text.push(table_byte(a, b, c, d))?;
+        Ok(())
+    }
+}
+
+// One after the other.
+fn put_all<T: Encode>(text: &mut Vec<u8>, items: &[T]) -> Result<(), AllocError>
+    ensures { OnOk result (text.new.items ≡ text.old.items ++ flat_map T.bytes items.now) }
 {
-    for w in wires {
-        put_word(text, *w)?;
+    for item in items {
+        item.put(text)?;
     }
     Ok(())
 }
@@ -39,35 +66,16 @@ fn table_byte(a: bool, b: bool, c: bool, d: bool) -> u8
     8 * u8::from(a) + 4 * u8::from(b) + 2 * u8::from(c) + u8::from(d)
 }
 
-fn put_gate(text: &mut Vec<u8>, gate: Gate) -> Result<(), AllocError>
-    ensures { OnOk result (text.new.items ≡ text.old.items ++ gate_bytes gate) }
-{
-    put_wires(text, &gate.wires)?;
-    let [a, b, c, d] = gate.gives;
-    text.push(table_byte(a, b, c, d))?;
-    Ok(())
-}
-
-fn put_gates(text: &mut Vec<u8>, gates: &[Gate]) -> Result<(), AllocError>
-    ensures { OnOk result (text.new.items ≡ text.old.items ++ flat_map gate_bytes gates.now) }
-{
-    for g in gates {
-        put_gate(text, *g)?;
-    }
-    Ok(())
-}
-
 // All that follows the kind.
 fn put_body(text: &mut Vec<u8>, sheet: &Sheet) -> Result<(), AllocError>
     ensures { OnOk result (text.new.items ≡ text.old.items ++ body (circuit_of sheet.now)) }
 {
-    put_half(text, sheet.inputs)?;
-    put_half(text, sheet.opener)?;
-    put_word(text, sheet.gates.len() as u32)?;
-    put_gates(text, sheet.gates.as_slice())?;
-    put_half(text, sheet.outputs.len() as u16)?;
-    put_wires(text, sheet.outputs.as_slice())?;
-    Ok(())
+    sheet.inputs.put(text)?;
+    sheet.opener.put(text)?;
+    (sheet.gates.len() as u32).put(text)?;
+    put_all(text, &sheet.gates)?;
+    (sheet.outputs.len() as u16).put(text)?;
+    put_all(text, &sheet.outputs)
 }
 
 // A law of every sheet, and no code: what writes it is read as it.

@@ -12,5 +12,5 @@ returns c =
     let xs = c.args.inputs.now in
     let as_many : length xs ≡ s.inputs = c.requires in
     let copied : vec_items c.in_ok-known.known ≡ xs = search rules in
-    let out : vec_items c.run_gates.new.known ≡ values (circuit_of s) xs = c.in_ok-run_gates.ensures ∙ ap₂ extended c.as_slice.ensures.value copied in
+    let out : vec_items c.run_gates.new.known ≡ values (circuit_of s) xs = c.in_ok-run_gates.ensures ∙ ap₂ extended c.deref.ensures.value copied in
     record { values = rw (eq-eqb (length xs) s.inputs as_many, out); meaning = rw out (one_assignment (circuit_of s) xs (well_formed s) as_many) }

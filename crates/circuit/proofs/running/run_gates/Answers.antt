@@ -8,7 +8,7 @@ pub loop-g-preserved : goal.loop-g-preserved
 loop-g-preserved c =
     let known = vec_items c.loop-g.known in
     let gate = get_or c.args.gates.now c.loop-g.g-index no_gate in
-    let value : c.gate_value-value.result ≡ gate_value gate known = c.gate_value-value.ensures ∙ ap (gate_value gate) c.as_slice.ensures.value in (
+    let value : c.gate_value-value.result ≡ gate_value gate known = c.gate_value-value.ensures ∙ ap (gate_value gate) c.deref.ensures.value in (
       search rules,
       extended_more c.args.gates.now known c.loop-g.g-index c.loop-g-test.true c.loop-g.invariant.1
           (rw value at (pushed (c.gate_value-value.result ∷ []) refl c.in_ok-push.was c.push.ensures.items)),
