@@ -1,10 +1,9 @@
 -- A block with its last bit replaced: it stays a block, has the colour that it was given, and keeps its stem. Assumes nothing.
-use Rattle.std.proofs.Common.{◌≡◌, ℕ, ◌+◌, ◌*◌, ◌/◌, ◌%◌, ◌<◌, ◌≤◌, Bool, true, false, eqb, List, ◌∷◌, ◌++◌, length, get_or, take, set, sym, ap, ◌∙◌, arith}
+use Rattle.std.proofs.Common.{◌≡◌, ℕ, ◌+◌, ◌*◌, ◌/◌, ◌%◌, ◌<◌, ◌≤◌, Bool, true, false, eqb, List, ◌∷◌, ◌++◌, length, get_or, take, set, sym, ap, ◌∙◌, arith, rules, tests}
 use Rattle.std.specs.Int.Digits.{number_from_digits}
 use Rattle.std.proofs.lemmas.Int.Digits.{number_push}
 use Rattle.std.proofs.ByRecursion.{All-get_or, All-set}
 use Rattle.std.proofs.lemmas.List.{drop_all, get_or-set_same, length-set, set-get_or, set_split}
-use Rattle.std.proofs.lemmas.Bool.{eq-eqb, ne_eqb}
 use Rattle.circuit.specs.Numbers.{bit}
 use Rattle.scheme.specs.Bytes.{Block, colour_of}
 use Rattle.keys.specs.Drawing.{stem, coloured}
@@ -14,8 +13,8 @@ bit_small true = omega arith
 bit_small false = omega arith
 
 parity : (c : Bool) (h : ℕ) → eqb ((2 * h + bit c) % 2) 1 ≡ c
-parity true h = eq-eqb ((2 * h + 1) % 2) 1 (omega arith)
-parity false h = ne_eqb ((2 * h + 0) % 2) 1 (λ e. omega arith)
+parity true h = search (rules, tests)
+parity false h = search (rules, tests)
 
 pub colour_coloured : (c : Bool) (k : List ℕ) → length k ≡ 16 → colour_of (coloured c k) ≡ c
 colour_coloured c k size =

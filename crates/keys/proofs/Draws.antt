@@ -1,8 +1,9 @@
 -- All keys that are drawn are blocks of their colours, with stems that differ. Assumes nothing.
-use Rattle.std.proofs.Common.{◌≡◌, ℕ, zero, suc, ◌<◌, ◌≤◌, Bool, true, false, cond, eqb, leb, List, [], ◌∷◌, length, take, drop, replicate, Ok, sym, refl, ap, ◌∙◌, ap₂, ⊎_elim, arith, lit<}
-use Rattle.std.proofs.ByRecursion.{All-take, All-drop, All-from_get_or}
-use Rattle.std.proofs.lemmas.List.{get_or_past, get_or-replicate, length-take-le}
-use Rattle.std.proofs.lemmas.Bool.{both_ways, cases_lt, eq-eqb, leb-true, or_parts}
+use Rattle.std.proofs.Common.{◌≡◌, ℕ, zero, suc, ◌<◌, ◌≤◌, Bool, true, false, cond, eqb, leb, List, [], ◌∷◌, length, take, drop, replicate, Ok, sym, refl, ap, ◌∙◌, ap₂, ⊎_elim, arith, rules}
+use Rattle.std.proofs.ByRecursion.{All-take, All-drop}
+use Rattle.std.proofs.lemmas.List.{get_or_past, length-take-le}
+use Rattle.std.proofs.lemmas.Bool.Decides.{nat_tests}
+use Rattle.std.proofs.lemmas.Bool.{cases_lt, leb-true, or_parts}
 use Rattle.circuit.proofs.AndThen.{no_answer, then_ok, cond_ok}
 use Rattle.scheme.specs.Bytes.{Block, colour_of}
 use Rattle.scheme.specs.Garbling.{Key, key}
@@ -29,12 +30,12 @@ new_key seen (suc n) xs p bytes e =
         rw same ((length-take-le 16 xs (leb-true 16 (length xs) long), All-take (λ b. b < 256) 16 xs bytes), new, All-drop (λ b. b < 256) 16 xs bytes)
 
 -- keys of wires, as they are by name, apart from each other and from stems seen before
-pub record Fresh (seen : List ℕ) (n : ℕ) (ws : List WireKeys) : Type 0 where
-  pub size : length ws ≡ n
-  pub blocks : (w : ℕ) (c : Bool) → w < n → Block (key_of ws (key w c))
-  pub colours : (w : ℕ) (c : Bool) → w < n → colour_of (key_of ws (key w c)) ≡ c
-  pub news : (w : ℕ) (c : Bool) → w < n → among seen (stem (key_of ws (key w c))) ≡ false
-  pub apart : (v w : ℕ) (c d : Bool) → v < n → w < n → stem (key_of ws (key v c)) ≡ stem (key_of ws (key w d)) → (v ≡ w) × (c ≡ d)
+record Fresh (seen : List ℕ) (n : ℕ) (ws : List WireKeys) : Type 0 where
+  size : length ws ≡ n
+  blocks : (w : ℕ) (c : Bool) → w < n → Block (key_of ws (key w c))
+  colours : (w : ℕ) (c : Bool) → w < n → colour_of (key_of ws (key w c)) ≡ c
+  news : (w : ℕ) (c : Bool) → w < n → among seen (stem (key_of ws (key w c))) ≡ false
+  apart : (v w : ℕ) (c d : Bool) → v < n → w < n → stem (key_of ws (key v c)) ≡ stem (key_of ws (key w d)) → (v ≡ w) × (c ≡ d)
 
 none : (seen : List ℕ) → Fresh seen 0 []
 none seen =
@@ -59,8 +60,8 @@ module _ (seen : List ℕ) (b : ℕ) (z o : List ℕ) (z_block : Block z) (o_blo
   first_differ : (c d : Bool) → cond c (stem o) (stem z) ≡ cond d (stem o) (stem z) → c ≡ d
   first_differ true true e = refl
   first_differ false false e = refl
-  first_differ true false e = absurd (both_ways (eqb (stem z) (stem o)) o_parts.0 (eq-eqb (stem z) (stem o) (sym e)))
-  first_differ false true e = absurd (both_ways (eqb (stem z) (stem o)) o_parts.0 (eq-eqb (stem z) (stem o) e))
+  first_differ true false e = let apart = o_parts.0 in grind (arith, nat_tests)
+  first_differ false true e = let apart = o_parts.0 in grind (arith, nat_tests)
 
   -- a later key has neither of its stems, and none seen before
   later : (w : ℕ) (d : Bool) → w < n → (among seen (stem (key_of ws (key w d))) ≡ false) × ((c : Bool) → cond c (stem o) (stem z) ≡ stem (key_of ws (key w d)) → ⊥)
@@ -71,8 +72,8 @@ module _ (seen : List ℕ) (b : ℕ) (z o : List ℕ) (z_block : Block z) (o_blo
       (not_z.1, neither s not_o.0 not_z.0)
     where
       neither : (s : ℕ) → eqb (stem o) s ≡ false → eqb (stem z) s ≡ false → (c : Bool) → cond c (stem o) (stem z) ≡ s → ⊥
-      neither s not_o not_z true e = both_ways (eqb (stem o) s) not_o (eq-eqb (stem o) s e)
-      neither s not_o not_z false e = both_ways (eqb (stem z) s) not_z (eq-eqb (stem z) s e)
+      neither s not_o not_z true e = grind (arith, nat_tests)
+      neither s not_o not_z false e = grind (arith, nat_tests)
 
   one_more : Fresh seen (suc n) (wire_of b (z, o) ∷ ws)
   one_more = record { size = ap suc rest.size; blocks = blocks; colours = colours; news = news; apart = apart }
@@ -116,7 +117,7 @@ drawn_fresh (suc n) seen (b ∷ xs) ws bytes e =
     rw (same, pair) (one_more seen b z.0 o.0 new_z.0 new_o.0 new_z.1 new_o.1 n vs (rw pair at rest))))))
 
 block_zero : Block (replicate 16 0)
-block_zero = (refl, All-from_get_or (λ b. b < 256) (replicate 16 0) 0 (λ i below. rw (get_or-replicate {A = ℕ} 16 i 0 0 below) (lit< tt)))
+block_zero = (refl, search rules)
 
 no_wire_blocks : (c : Bool) → Block (cond c no_wire.one no_wire.zero)
 no_wire_blocks true = block_zero

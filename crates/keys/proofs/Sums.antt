@@ -1,15 +1,33 @@
--- Exclusive or of bytes, byte by byte: a byte more, and the end. Assumes nothing.
-use Rattle.std.proofs.Common.{◌≡◌, ℕ, ◌+◌, ◌<◌, ◌≤◌, List, ◌++◌, length, get_or, take, drop, set, refl, append_assoc}
+-- Exclusive or of bytes, made by calls at each place. Assumes nothing.
+use Rattle.std.proofs.Common.{◌≡◌, ℕ, zero, suc, ◌+◌, ◌<◌, List, [], ◌∷◌, length, get_or, refl, ap₂, ◌∙◌, arith}
+use denote.Param.Members.{Mut, Called}
 use mathlib.Core.List.{zip_with}
 use lib.Bits.{bit_xor}
-use Rattle.std.proofs.lemmas.List.{append-nil, drop_all, drop_more, take_all, take_more_set}
+use Rattle.std.specs.Array.{IsFromFnResultFrom, IsFromFnResult}
 use Rattle.scheme.specs.Bytes.{xor_bytes}
 
-pub sum_more : (sum a b : List ℕ) (i : ℕ) → i < length sum → i < length a → i < length b →
-    take (i + 1) (set sum i (bit_xor (get_or a i 0) (get_or b i 0))) ++ xor_bytes (drop (i + 1) a) (drop (i + 1) b) ≡ take i sum ++ xor_bytes (drop i a) (drop i b)
+is_sum : (sum a b : List ℕ) → length sum ≡ length a → length sum ≡ length b →
+    ((i : ℕ) → i < length sum → get_or sum i 0 ≡ bit_xor (get_or a i 0) (get_or b i 0)) → sum ≡ xor_bytes a b
 unfolding zip_with
-sum_more sum a b i h p q = rw (take_more_set sum i (bit_xor (get_or a i 0) (get_or b i 0)) h, drop_more a i 0 p, drop_more b i 0 q, append_assoc) refl
+is_sum [] [] [] m n each = refl
+is_sum (s ∷ sum) (x ∷ a) (y ∷ b) m n each =
+    ap₂ (λ t ts. t ∷ ts) (each 0 (omega arith)) (is_sum sum a b (omega arith) (omega arith) (λ i below. each (suc i) (omega arith)))
+is_sum [] (x ∷ a) b m n each = absurd (omega arith)
+is_sum [] [] (y ∷ b) m n each = absurd (omega arith)
+is_sum (s ∷ sum) [] b m n each = absurd (omega arith)
+is_sum (s ∷ sum) (x ∷ a) [] m n each = absurd (omega arith)
 
-pub sum_all : (sum a b : List ℕ) (n : ℕ) → length sum ≤ n → length a ≤ n → take n sum ++ xor_bytes (drop n a) (drop n b) ≡ sum
-unfolding zip_with
-sum_all sum a b n h p = rw (take_all n sum h, drop_all n a p, append-nil) refl
+-- a closure that stays as it is, and gives h of each index
+module _ {F B : Type 0} {g : Mut F (ℕ × Unit {0}) B} {f : F} (h : ℕ → B) (calls : (i : ℕ) (y : B) (q : F) → Called g f (i, tt) y q → (q ≡ f) × (y ≡ h i)) where
+  made_from : (ys : List B) (i n : ℕ) → IsFromFnResultFrom g f ys i n → (j k : ℕ) (d : B) → k < n → j ≡ i + k → get_or ys j d ≡ h j
+  made_from ys i zero made j k d below at = absurd (omega arith)
+  made_from ys i (suc n) made j zero d below at =
+      let here : j ≡ i = omega arith in
+      rw here (made.2.1 d ∙ (calls i made.1 made.0 made.3).1)
+  made_from ys i (suc n) made j (suc k) d below at =
+      made_from ys (i + 1) n (rw (calls i made.1 made.0 made.3).0 at made.4) j k d (omega arith) (omega arith)
+
+pub sum_made : {F : Type 0} {g : Mut F (ℕ × Unit {0}) ℕ} {f : F} {sum : List ℕ} (a b : List ℕ) → length a ≡ 16 → length b ≡ 16 → IsFromFnResult g f sum 16 →
+    ((i : ℕ) (y : ℕ) (q : F) → Called g f (i, tt) y q → (q ≡ f) × (y ≡ bit_xor (get_or a i 0) (get_or b i 0))) → sum ≡ xor_bytes a b
+sum_made {sum} a b m n made calls =
+    is_sum sum a b (omega arith) (omega arith) (λ i below. made_from (λ k. bit_xor (get_or a k 0) (get_or b k 0)) calls sum 0 16 made.each i i 0 (omega arith) (omega arith))

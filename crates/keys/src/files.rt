@@ -1,8 +1,7 @@
 // Files of keys.
-ghost use Rattle.std.specs.Prelude.{◌≡◌, ◌≤◌, ◌++◌, length, IfOk, Ok, OnOk};
-ghost use Rattle.std.specs.List.{flat_map};
+ghost use Rattle.std.specs.Prelude.{◌≡◌, ◌≤◌, length, IfOk, Ok};
 ghost use Rattle.keys.specs.Files.{most_keys, keys_file, parse_keys, keys_for};
-ghost use Rattle.keys.specs.Heads.{keys_told, Lent};
+ghost use Rattle.keys.specs.Heads.{Lent};
 ghost use Rattle.keys.specs.Promises.{Writes, Accepts, Reads};
 
 use crate::wires::Key;
@@ -14,16 +13,8 @@ const KEYS: u8 = 2;
 
 const MOST_KEYS: usize = 2048;
 
-fn put_keys(text: &mut Vec<u8>, keys: &[Key]) -> Result<(), AllocError>
-    ensures { OnOk result (text.new.items ≡ text.old.items ++ flat_map (λ k. k) keys.now) }
-{
-    for k in keys {
-        text.extend_from_slice(k)?;
-    }
-    Ok(())
-}
-
 // A file of keys that are not too many.
+#[tactic(auto, using(circuit::proofs::Numbers::two_bytes))]
 pub(crate) fn file_of(heap: Global, keys: &[Key]) -> Result<Vec<u8>, AllocError>
     requires { length keys.now ≤ most_keys }
     ensures { IfOk result (λ v. v.items ≡ keys_file keys.now) }
@@ -31,7 +22,7 @@ pub(crate) fn file_of(heap: Global, keys: &[Key]) -> Result<Vec<u8>, AllocError>
     let mut text = Vec::new(heap);
     text.push(KEYS)?;
     text.extend_from_slice(&(keys.len() as u16).to_be_bytes())?;
-    put_keys(&mut text, keys)?;
+    text.extend_from_slice(keys.as_flattened())?;
     Ok(text)
 }
 
@@ -51,52 +42,38 @@ pub fn write_keys(heap: Global, keys: &[Key]) -> Result<Vec<u8>, Failure>
     Ok(file_of(heap, keys)?)
 }
 
-// The bytes of a file's keys.
-pub(crate) fn body_in(text: &[u8]) -> Result<&[u8], Refusal>
+// The keys of a file.
+#[tactic(auto, using(crate::proofs::Filed::sixteens_chunks))]
+pub(crate) fn keys_in(text: &[u8]) -> Result<&[Key], Refusal>
     ensures { Lent result (parse_keys text.now) }
 {
-    let Some(([kind, high, low], rest)) = text.split_first_chunk::<3>() else {
+    let Some((&[kind, high, low], rest)) = text.split_first_chunk::<3>() else {
         return Err(Refusal::Malformed);
     };
-    let count = 256 * usize::from(*high) + usize::from(*low);
-    if *kind != KEYS || rest.len() != 16 * count {
+    let count = usize::from(u16::from_be_bytes([high, low]));
+    let (keys, over) = rest.as_chunks();
+    if kind != KEYS || keys.len() != count || !over.is_empty() {
         return Err(Refusal::Malformed);
     }
     if count > MOST_KEYS {
         return Err(Refusal::Count);
     }
-    Ok(rest)
-}
-
-// The keys that a text has, one after the other.
-pub(crate) fn keys_in(heap: Global, text: &[u8]) -> Result<Vec<Key>, AllocError>
-    ensures { IfOk result (λ v. v.items ≡ keys_told text.now) }
-{
-    let mut keys = Vec::new(heap);
-    let mut rest = text;
-    while let Some((key, after)) = rest.split_first_chunk::<16>() {
-        keys.push(*key)?;
-        rest = after;
-    }
     Ok(keys)
 }
 
-// The bytes of as many keys as are told.
-fn body_for(count: usize, text: &[u8]) -> Result<&[u8], Refusal>
-    ensures body { Lent result (keys_for count text.now) }
-    ensures laws { Accepts count text.now }
-{
-    let rest = body_in(text)?;
-    if rest.len() / 16 != count {
-        return Err(Refusal::Values);
-    }
-    Ok(rest)
-}
+// A law of all texts, and no code: what is read from one is keys that write it.
+fn accepted(count: usize, text: &[u8])
+    ensures { Accepts count text.now }
+{}
 
 // As many keys as are told, from their file.
 pub fn read_keys(heap: Global, count: usize, text: &[u8]) -> Result<Vec<Key>, Failure>
     ensures { Reads count text.now result }
 {
-    let rest = body_for(count, text)?;
-    Ok(keys_in(heap, rest)?)
+    accepted(count, text);
+    let keys = keys_in(text)?;
+    if keys.len() != count {
+        return Err(Failure::Refused(Refusal::Values));
+    }
+    Ok(Vec::from_slice(heap, keys)?)
 }
