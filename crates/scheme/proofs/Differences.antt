@@ -1,30 +1,22 @@
--- The first difference of two results: the loop that looks for it, and what it says. Assumes nothing.
-use Rattle.std.proofs.Common.{◌≡◌, ℕ, zero, suc, ◌+◌, ◌<◌, ◌≤◌, Bool, true, false, cond, List, [], ◌∷◌, length, get_or, drop, Some, None, Option, sym, refl, ap, ◌∙◌, arith}
-use Rattle.std.proofs.lemmas.List.{drop_more, drop_all}
+-- The first difference of two results: where it is found, and what it says. Assumes nothing.
+use Rattle.std.proofs.Common.{◌≡◌, ℕ, zero, suc, ◌+◌, ◌<◌, Bool, true, false, cond, List, [], ◌∷◌, length, Some, None, sym, refl, ap, ◌∙◌, arith}
+use Rattle.std.specs.List.{position, position_from}
+use Rattle.std.proofs.lemmas.Iterator.Adapters.{position_from-zero}
 use Rattle.std.proofs.lemmas.Bool.{true≢false}
 use Rattle.circuit.specs.Circuit.{at, at_all}
 use Rattle.scheme.specs.Coins.{◌⊕◌}
 use Rattle.scheme.specs.Results.{first_differing, Differs}
 use Rattle.scheme.proofs.Colours.{xor_same, same_from_xor}
 
-module _ (before after : List Bool) (outputs : List ℕ) (i : ℕ) {whole : Option ℕ}
-    (so_far : first_differing i (at_all before (drop i outputs)) (at_all after (drop i outputs)) ≡ whole) where
-  next : i < length outputs →
-      cond (at before (get_or outputs i 0) ⊕ at after (get_or outputs i 0)) (Some i) (first_differing (i + 1) (at_all before (drop (i + 1) outputs)) (at_all after (drop (i + 1) outputs)))
-      ≡ whole
+-- the place that is found among the outputs
+module _ (before after : List Bool) where
+  from_place : (k : ℕ) (ws : List ℕ) → position_from (λ w. at before w ⊕ at after w) k ws ≡ first_differing k (at_all before ws) (at_all after ws)
   unfolding first_differing
-  next below = rw (drop_more outputs i 0 below) at so_far
+  from_place k [] = refl
+  from_place k (w ∷ ws) = ap (cond (at before w ⊕ at after w) (Some k)) (from_place (k + 1) ws)
 
-  pub found : i < length outputs → at before (get_or outputs i 0) ⊕ at after (get_or outputs i 0) ≡ true → whole ≡ Some i
-  found below other = sym (rw other at (next below))
-
-  pub further : i < length outputs → at before (get_or outputs i 0) ⊕ at after (get_or outputs i 0) ≡ false →
-      first_differing (i + 1) (at_all before (drop (i + 1) outputs)) (at_all after (drop (i + 1) outputs)) ≡ whole
-  further below same = rw same at (next below)
-
-  pub none_left : length outputs ≤ i → whole ≡ None
-  unfolding first_differing
-  none_left end = sym (rw (drop_all i outputs end) at so_far)
+  pub first_place : (outputs : List ℕ) → position (λ w. at before w ⊕ at after w) outputs ≡ first_differing 0 (at_all before outputs) (at_all after outputs)
+  first_place outputs = position_from-zero (λ w. at before w ⊕ at after w) outputs ∙ from_place 0 outputs
 
 pub no_difference : (k : ℕ) (r s : List Bool) → length r ≡ length s → first_differing k r s ≡ None → r ≡ s
 unfolding first_differing
@@ -39,8 +31,8 @@ no_difference k (x ∷ r) (y ∷ s) len e = go (x ⊕ y) refl e (no_difference (
 
 pub difference : (k m : ℕ) (r s : List Bool) → first_differing k r s ≡ Some m → (j : ℕ) × (m ≡ k + j) × Differs r s j
 unfolding first_differing
-difference k m [] s e = absurd (let z : ◌≡◌ {A = ℕ} 0 1 = cc in omega arith)
-difference k m (x ∷ r) [] e = absurd (let z : ◌≡◌ {A = ℕ} 0 1 = cc in omega arith)
+difference k m [] s e = cc
+difference k m (x ∷ r) [] e = cc
 difference k m (x ∷ r) (y ∷ s) e = go (x ⊕ y) refl e (difference (k + 1) m r s)
   where
     go : (b : Bool) → x ⊕ y ≡ b → cond b (Some k) (first_differing (k + 1) r s) ≡ Some m →

@@ -64,10 +64,7 @@ byte_at (x ∷ a) (y ∷ e) zero p q = refl
 byte_at (x ∷ a) (y ∷ e) (suc i) p q = byte_at a e i (omega arith) (omega arith)
 
 bits_xor : (a b : Bool) → bit_xor (bit a) (bit b) ≡ bit (a ⊕ b)
-bits_xor true true = refl
-bits_xor true false = refl
-bits_xor false true = refl
-bits_xor false false = refl
+bits_xor a b = grind arith
 
 same_bit : (a b : Bool) (x : ℕ) → bit_xor (bit a) x ≡ bit_xor (bit b) x → a ≡ b
 same_bit a b x e = go a b (sym (without (bit a)) ∙ ap (λ y. bit_xor y x) e ∙ without (bit b))
@@ -76,10 +73,7 @@ same_bit a b x e = go a b (sym (without (bit a)) ∙ ap (λ y. bit_xor y x) e �
     without y = xor_assoc y x x ∙ ap (bit_xor y) (xor_self x) ∙ xor_zero_r y
 
     go : (a b : Bool) → bit a ≡ bit b → a ≡ b
-    go true true e = refl
-    go true false e = absurd (omega arith)
-    go false true e = absurd (omega arith)
-    go false false e = refl
+    go a b e = grind arith
 
 -- secrets that can be told from each other
 module _ {A : Type 0} (eq : A → A → Bool) (eq_same : (k j : A) → eq k j ≡ true → k ≡ j) (eq_self : (k : A) → eq k k ≡ true) where

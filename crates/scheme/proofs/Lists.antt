@@ -1,8 +1,9 @@
 -- Lists made place by place: what holds at each place holds side by side, and what stands at a place is a member. Assumes nothing.
-use Rattle.std.proofs.Common.{◌≡◌, ℕ, zero, suc, ◌+◌, ◌<◌, ◌⊎◌, List, ◌∷◌, map, get_or, sym, refl, ap, ◌∙◌, subst, inl, inr, add-zero, arith}
+use Rattle.std.proofs.Common.{◌≡◌, ℕ, zero, suc, ◌+◌, ◌<◌, ◌⊎◌, List, ◌∷◌, map, get_or, sym, ap, ◌∙◌, subst, inl, inr, add-zero, arith}
 use mathlib.Core.List.Memᴰ
 use mathlib.Core.List.{map-map, flatten, Forall₂, Memᴰ}
-use mathlib.Mathlib.Data.List.Forall2.{Forall₂-eq-eq-eq}
+use mathlib.Mathlib.Data.List.Forall2.Forall₂
+use mathlib.Mathlib.Data.List.Forall2.{Forall₂-eq-eq-eq, Forall₂-map_right_iff, Rel-map}
 use Rattle.std.specs.List.{range_with_len, AllByRecursion}
 use Rattle.std.proofs.lemmas.List.FromFn.{get_or-map-range_with_len}
 use Rattle.scheme.specs.Garbling.{tabulate}
@@ -24,34 +25,20 @@ module _ {X Y : Type 0} (R : X → Y → Type 0) (f : ℕ → X) (g : ℕ → Y)
   pub tabulate_beside : (n : ℕ) → ((i : ℕ) → i < n → R (f i) (g i)) → Forall₂ R (tabulate n f) (tabulate n g)
   tabulate_beside n h = counted_beside 0 n (λ i below. let e : 0 + i ≡ i = omega arith in rw e (h i below))
 
-module _ {X Y Z W : Type 0} (R : Z → W → Type 0) (f : X → Z) (g : Y → W) where
-  map_beside : {xs : List X} {ys : List Y} → Forall₂ (λ x y. R (f x) (g y)) xs ys → Forall₂ R (map f xs) (map g ys)
-  map_beside Forall₂.nil = Forall₂.nil
-  map_beside (Forall₂.cons h t) = Forall₂.cons h (map_beside t)
+pub map_map_beside : {X Y Z W : Type 0} (R : Z → W → Type 0) (f : X → Z) (g : Y → W) {xss : List (List X)} {yss : List (List Y)} →
+    Forall₂ (Forall₂ (λ x y. R (f x) (g y))) xss yss → Forall₂ (Forall₂ R) (map (map f) xss) (map (map g) yss)
+map_map_beside R f g {xss} {yss} h = Rel-map (map f) (map g) (Rel-map f g (λ x y r. r)) xss yss h
 
-  pub map_map_beside : {xss : List (List X)} {yss : List (List Y)} → Forall₂ (Forall₂ (λ x y. R (f x) (g y))) xss yss → Forall₂ (Forall₂ R) (map (map f) xss) (map (map g) yss)
-  map_map_beside Forall₂.nil = Forall₂.nil
-  map_map_beside (Forall₂.cons h t) = Forall₂.cons (map_beside h) (map_map_beside t)
-
-module _ {X Y Z : Type 0} (R : X → Z → Type 0) (g : Y → Z) where
-  beside_map : {xs : List X} {ys : List Y} → Forall₂ (λ x y. R x (g y)) xs ys → Forall₂ R xs (map g ys)
-  beside_map Forall₂.nil = Forall₂.nil
-  beside_map (Forall₂.cons h t) = Forall₂.cons h (beside_map t)
-
-  pub beside_map_map : {xss : List (List X)} {yss : List (List Y)} → Forall₂ (Forall₂ (λ x y. R x (g y))) xss yss → Forall₂ (Forall₂ R) xss (map (map g) yss)
-  beside_map_map Forall₂.nil = Forall₂.nil
-  beside_map_map (Forall₂.cons h t) = Forall₂.cons (beside_map h) (beside_map_map t)
+pub beside_map_map : {X Y Z : Type 0} (R : X → Z → Type 0) (g : Y → Z) {xss : List (List X)} {yss : List (List Y)} →
+    Forall₂ (Forall₂ (λ x y. R x (g y))) xss yss → Forall₂ (Forall₂ R) xss (map (map g) yss)
+beside_map_map R g h = (Forall₂-map_right_iff (map g)).1 (Forall₂.imp (λ xs ys. (Forall₂-map_right_iff g).1) h)
 
 -- what is equal place by place is equal
-equal_beside : {X : Type 0} {xs ys : List X} → Forall₂ (λ x y. x ≡ y) xs ys → xs ≡ ys
-equal_beside h = Forall₂-eq-eq-eq.0 h
-
 pub equal_tables : {X : Type 0} {xss yss : List (List X)} → Forall₂ (Forall₂ (λ x y. x ≡ y)) xss yss → xss ≡ yss
-equal_tables Forall₂.nil = refl
-equal_tables (Forall₂.cons h t) = conses (equal_beside h) (equal_tables t)
+equal_tables h = Forall₂-eq-eq-eq.0 (Forall₂.imp (λ xs ys. Forall₂-eq-eq-eq.0) h)
 
 pub equal_tabulate : {X : Type 0} (f g : ℕ → X) (n : ℕ) → ((i : ℕ) → i < n → f i ≡ g i) → tabulate n f ≡ tabulate n g
-equal_tabulate f g n h = equal_beside (tabulate_beside (λ x y. x ≡ y) f g n h)
+equal_tabulate f g n h = Forall₂-eq-eq-eq.0 (tabulate_beside (λ x y. x ≡ y) f g n h)
 
 -- members
 pub member_beside : {X Y : Type 0} (P : Y → Type 0) {xs : List X} {ys : List Y} {y : Y} → Forall₂ (λ x y. P y) xs ys → Memᴰ y ys → P y

@@ -26,8 +26,7 @@ tweak_of_text [] ns = refl
 tweak_of_text (k ∷ ks) ns = tweak_of_text ks ns
 
 not_and : (a b : Bool) → (not a || not b) ≡ not (a && b)
-not_and true b = refl
-not_and false b = refl
+not_and a b = grind arith
 
 -- tables, and the colour of the key that is held of each wire
 module _ (tweak : Tweak) (order : ℕ → ℕ → List Bool) (c : Circuit) (on : Setting tweak order c) (act : ℕ → Bool) where

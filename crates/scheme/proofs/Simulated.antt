@@ -2,9 +2,8 @@
 use Rattle.std.proofs.Common.{◌≡◌, ℕ, ◌+◌, ◌<◌, Bool, true, false, cond, not, ◌&&◌, ◌↔◌, List, [], ◌∷◌, map, length, sym, refl, ap, ◌∙◌, subst, ap₂, arith}
 use mathlib.Core.List.{zip_with}
 use Rattle.std.specs.List.{AllByRecursion}
-use Rattle.std.proofs.lemmas.List.FromFn.{length-map-range_with_len, get_or-map-range_with_len}
+use Rattle.std.proofs.lemmas.List.FromFn.{length-map-range_with_len, get_or-map-range_with_len, fill_by_all}
 use Rattle.std.proofs.ByRecursion.{All-from_get_or}
-use Rattle.std.proofs.lemmas.List.{ext_get_or}
 use Rattle.circuit.specs.Circuit.{Circuit, wire_count, at, at_all, values, result}
 use Rattle.scheme.specs.Coins.{◌⊕◌, colour, colours_of}
 use Rattle.scheme.specs.Garbling.{Key, key, Scheme, blocks, Got, opened, closed, all_held, look, value_key, active, got}
@@ -30,10 +29,8 @@ colour_at coins vs w below = get_or-map-range_with_len (λ w. colour (at coins w
 colours_twice : (coins vs : List Bool) → colours_of (colours_of coins vs) vs ≡ coins
 colours_twice coins vs =
     let size = colours_size coins vs in
-    ext_get_or false (colours_of (colours_of coins vs) vs) coins (colours_size (colours_of coins vs) vs ∙ size) (λ w below.
-    let inner : w < length (colours_of coins vs) = omega (arith, colours_size (colours_of coins vs) vs) in
-    let outer : w < length coins = omega arith in
-    colour_at (colours_of coins vs) vs w inner ∙ ap (λ b. colour b (at vs w)) (colour_at coins vs w outer) ∙ xor_twice (at coins w) (at vs w))
+    sym (fill_by_all (λ w. colour (at (colours_of coins vs) w) (at vs w)) coins (length (colours_of coins vs)) false (sym size) (λ w below.
+    sym (ap (λ b. colour b (at vs w)) (colour_at coins vs w (omega (arith, size))) ∙ xor_twice (at coins w) (at vs w))))
 
 module _ (c : Circuit) (xs coins : List Bool) (fits : Fits yao c xs coins) where
   abbrev colours : List Bool

@@ -1,9 +1,9 @@
 -- The statement, put together. Assumes nothing.
-use Rattle.std.proofs.Common.{◌≡◌, Bool, true, not, ◌&&◌, eqb, refl, ap, ap₂}
-use Rattle.std.proofs.lemmas.Bool.{and_parts, and_from, not-true, eqb-true, eq-eqb}
+use Rattle.std.proofs.Common.{◌≡◌, Bool, true, not, ◌&&◌, eqb, arith}
+use Rattle.std.proofs.lemmas.Bool.Decides.{nat_tests}
 use Rattle.circuit.specs.Circuit.{at}
 use Rattle.scheme.specs.Coins.{◌⊕◌}
-use Rattle.scheme.specs.Garbling.{Key, key}
+use Rattle.scheme.specs.Garbling.{Key}
 use Rattle.scheme.specs.Promises.{KeepsPromises}
 use Rattle.scheme.specs.Statement.{Statement}
 use Rattle.scheme.specs.Yao.{by_colour, numbered, outputs_only, yao}
@@ -37,13 +37,11 @@ same_keys k j = eqb k.wire j.wire && not (k.colour ⊕ j.colour)
 
 same_from_test : (k j : Key) → same_keys k j ≡ true → k ≡ j
 unfolding same_keys
-same_from_test k j is =
-    let both = and_parts (eqb k.wire j.wire) (not (k.colour ⊕ j.colour)) is in
-    ap₂ key (eqb-true k.wire j.wire both.0) (same_from_xor k.colour j.colour (not-true (k.colour ⊕ j.colour) both.1))
+same_from_test k j is = grind (arith, nat_tests, same_from_xor)
 
 self_test : (k : Key) → same_keys k k ≡ true
 unfolding same_keys
-self_test k = and_from (eqb k.wire k.wire) (not (k.colour ⊕ k.colour)) (eq-eqb k.wire k.wire refl) (ap not (xor_same k.colour))
+self_test k = grind (arith, nat_tests, xor_same)
 
 pub statement : Statement
 statement =

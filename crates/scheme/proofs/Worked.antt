@@ -1,10 +1,9 @@
 -- The worked examples. Assumes nothing.
-use Rattle.std.proofs.Common.{◌≡◌, ℕ, ◌^◌, ◌<◌, Bool, true, false, cond, not, ◌&&◌, List, [], ◌∷◌, length, refl, ap, ◌∙◌, arith}
+use Rattle.std.proofs.Common.{◌≡◌, ℕ, ◌^◌, ◌<◌, Bool, true, false, cond, not, List, [], ◌∷◌, length, refl, ap, ◌∙◌, arith}
 use mathlib.Core.List.{zip_with}
 use Rattle.std.specs.List.{AllByRecursion}
-use Rattle.circuit.specs.Circuit.{Circuit, at, at_all, extended, values, result}
+use Rattle.circuit.specs.Circuit.{Circuit, at, at_all, extended, result}
 use Rattle.circuit.specs.Numbers.{bits, digits}
-use Rattle.scheme.specs.Coins.{◌⊕◌, colour}
 use Rattle.scheme.specs.Examples.{Works, examples, WorkedExamples}
 use Rattle.scheme.specs.Garbling.{key, Row, Seen, opened, closed, seen_at, all_held, look, active, view}
 use Rattle.scheme.specs.Yao.{gate_at, row_of, held_for, by_colour, numbered, yao}
@@ -17,13 +16,7 @@ examples_work =
 
 -- keys of both colours of one wire are not active together
 never_both : (c : Circuit) (xs coins : List Bool) (w : ℕ) (b : Bool) → all_held (λ v. (active yao c xs coins v).colour) (key w b ∷ key w (not b) ∷ []) ≡ false
-never_both c xs coins w b = go b (colour (at coins w) (at (values c xs) w))
-  where
-    go : (b own : Bool) → (not (b ⊕ own) && (not (not b ⊕ own) && true)) ≡ false
-    go true true = refl
-    go true false = refl
-    go false true = refl
-    go false false = refl
+never_both c xs coins w b = grind arith
 
 module _ (c : Circuit) (k w : ℕ) (below : k < length c.gates) (same : (gate_at c k).wires ≡ w ∷ w ∷ []) (xs coins : List Bool) (s : Seen) where
   abbrev held : ℕ → Bool

@@ -1,16 +1,16 @@
 // The pairing of coins.
-ghost use Rattle.std.specs.Prelude.{◌≡◌, ◌≤◌, length, IfOk};
-ghost use Rattle.circuit.specs.Circuit.{wire_count, Below, at_all};
+ghost use Rattle.std.specs.Prelude.{◌≡◌, ◌<◌, ◌≤◌, length, map, All, IfOk, IfErr, zip, position};
+ghost use Rattle.circuit.specs.Circuit.{wire_count, at};
 ghost use Rattle.circuit.specs.Meaning.{circuit_of};
-ghost use Rattle.scheme.specs.Coins.{◌⊕◌, paired_by};
-ghost use Rattle.scheme.specs.Outcome.{Pairs};
-ghost use Rattle.scheme.specs.Results.{first_differing};
+ghost use Rattle.circuit.specs.Refusals.{refuse};
+ghost use Rattle.scheme.specs.Coins.{◌⊕◌};
+ghost use Rattle.scheme.specs.Outcome.{Pairs, pairing};
 ghost use Rattle.scheme.specs.Statement.{Statement};
 
 use circuit::{Failure, Refusal, Sheet};
 use std::alloc::{AllocError, Global};
 
-// How the coins of two inputs are paired.
+// How the coins of two inputs are paired. Not a `Result`: both are answers, and neither is a failure.
 #[derive(Drop)]
 pub enum Pairing {
     // the results are the same: for each wire, the coin that pairs the one given
@@ -19,94 +19,87 @@ pub enum Pairing {
     Differ(usize),
 }
 
-// What can be known of what a garbler sends, and no code.
-fn statement()
-    ensures { Statement }
-{}
-
+// The first output in which the results differ, from 0.
 fn first_difference(before: &[bool], after: &[bool], outputs: &[u32]) -> Option<usize>
-    requires before_within { Below (length before.now) outputs.now }
-    requires after_within { Below (length after.now) outputs.now }
-    ensures { result ≡ first_differing 0 (at_all before.now outputs.now) (at_all after.now outputs.now) }
+    requires before_within { All (λ w. w < length before.now) outputs.now }
+    requires after_within { All (λ w. w < length after.now) outputs.now }
+    ensures { result ≡ position (λ w. at before.now w ⊕ at after.now w) outputs.now }
 {
-    for i in 0..outputs.len() {
-        let wire = outputs[i] as usize;
-        if before[wire] != after[wire] {
-            return Some(i);
-        }
-    }
-    None
+    outputs
+        .iter()
+        .position(|w| before[*w as usize] != after[*w as usize])
 }
 
-// The coin that gives the value `after` the colour that `before` has under `coin`.
-fn paired_coin(coin: bool, before: bool, after: bool) -> bool
-    ensures { result ≡ coin ⊕ before ⊕ after }
-{
-    coin ^ before ^ after
-}
-
+// For each wire, the coin that gives its value `after` the colour that `before` has under its coin.
 fn paired_coins(
     heap: Global,
     coins: &[bool],
     before: &[bool],
     after: &[bool],
 ) -> Result<Vec<bool>, AllocError>
-    requires before_within { length coins.now ≤ length before.now }
-    requires after_within { length coins.now ≤ length after.now }
-    ensures { IfOk result (λ v. v.items ≡ paired_by coins.now before.now after.now) }
+    ensures { IfOk result (λ v. v.items ≡ map (λ w. (w.0).0 ⊕ (w.0).1 ⊕ w.1) (zip (zip coins.now before.now) after.now)) }
 {
-    let mut paired = Vec::new(heap);
-    for w in 0..coins.len() {
-        paired.push(paired_coin(coins[w], before[w], after[w]))?;
-    }
-    Ok(paired)
+    coins
+        .iter()
+        .zip(before)
+        .zip(after)
+        .map(|((coin, before), after)| coin ^ before ^ after)
+        .collect(heap)
 }
 
-fn pair_fitting(
-    heap: Global,
-    sheet: &Sheet,
-    first: &[bool],
-    second: &[bool],
-    coins: &[bool],
-) -> Result<Pairing, Failure>
-    requires first_fits { length first.now ≡ sheet.now.inputs }
-    requires second_fits { length second.now ≡ sheet.now.inputs }
-    requires coins_fit { length coins.now ≡ wire_count (circuit_of sheet.now) }
-    ensures { Pairs sheet.now first.now second.now coins.now result }
-{
-    let before = sheet.values(heap, first)?;
-    let after = sheet.values(heap, second)?;
-    match first_difference(
-        before.as_slice(),
-        after.as_slice(),
-        sheet.outputs.as_slice(),
-    ) {
-        Some(output) => Ok(Pairing::Differ(output)),
-        None => Ok(Pairing::Coins(paired_coins(heap, coins, before.as_slice(), after.as_slice())?)),
-    }
+// Two inputs of a sheet, and coins of its wires for the first.
+#[derive(Drop)]
+struct Fitting<'a> {
+    sheet: &'a Sheet,
+    first: &'a [bool],
+    second: &'a [bool],
+    coins: &'a [bool],
+    ghost first_fits: { length first.now ≡ sheet.now.inputs },
+    ghost second_fits: { length second.now ≡ sheet.now.inputs },
+    ghost coins_fit: { length coins.now ≡ wire_count (circuit_of sheet.now) },
 }
 
-fn pair_checked(
-    heap: Global,
-    sheet: &Sheet,
-    first: &[bool],
-    second: &[bool],
-    coins: &[bool],
-) -> Result<Pairing, Failure>
-    ensures { Pairs sheet.now first.now second.now coins.now result }
-{
-    let inputs = sheet.inputs as usize;
-    if first.len() != inputs || second.len() != inputs {
-        return Err(Failure::Refused(Refusal::Values));
+impl<'a> Fitting<'a> {
+    // The inputs are looked at first, then the coins.
+    fn of(
+        sheet: &'a Sheet,
+        first: &'a [bool],
+        second: &'a [bool],
+        coins: &'a [bool],
+    ) -> Result<Fitting<'a>, Refusal>
+        ensures given { IfOk result (λ f. (f.sheet.now ≡ sheet.now) × (f.first.now ≡ first.now) × (f.second.now ≡ second.now) × (f.coins.now ≡ coins.now)) }
+        ensures refused { IfErr result (λ e. pairing (circuit_of sheet.now) first.now second.now coins.now ≡ refuse e) }
+    {
+        let inputs = sheet.inputs as usize;
+        if first.len() != inputs || second.len() != inputs {
+            return Err(Refusal::Values);
+        }
+        if coins.len() != sheet.wire_count() {
+            return Err(Refusal::Malformed);
+        }
+        Ok(Fitting {
+            sheet,
+            first,
+            second,
+            coins,
+        })
     }
-    if coins.len() != sheet.wire_count() {
-        return Err(Failure::Refused(Refusal::Malformed));
+
+    fn pair(&self, heap: Global) -> Result<Pairing, Failure>
+        ensures { Pairs self.now.sheet.now self.now.first.now self.now.second.now self.now.coins.now result }
+    {
+        let before = self.sheet.values(heap, self.first)?;
+        let after = self.sheet.values(heap, self.second)?;
+        match first_difference(&before, &after, &self.sheet.outputs) {
+            Some(output) => Ok(Pairing::Differ(output)),
+            None => Ok(Pairing::Coins(paired_coins(heap, self.coins, &before, &after)?)),
+        }
     }
-    pair_fitting(heap, sheet, first, second, coins)
 }
 
 // The coins under which every wire has, for the second input, the colour that it has for the first under these, so that an opener
 // does not tell the two apart; or the first output in which the two results differ.
+#[tactic(auto, using(crate::proofs::Stated::statement))]
 pub fn pair(
     heap: Global,
     sheet: &Sheet,
@@ -117,6 +110,5 @@ pub fn pair(
     ensures pairs { Pairs sheet.now first.now second.now coins.now result }
     ensures laws { Statement }
 {
-    statement();
-    pair_checked(heap, sheet, first, second, coins)
+    Fitting::of(sheet, first, second, coins)?.pair(heap)
 }
