@@ -1,11 +1,11 @@
 // A sheet from its bytes: each part is read to its end or its first fault.
-ghost use Rattle.std.specs.Prelude.{◌≡◌, ◌-◌, ◌≤◌, IfOk, vec_items};
+ghost use Rattle.std.specs.Prelude.{◌≡◌, ◌-◌, ◌≤◌};
 ghost use Rattle.circuit.specs.Format.{kind, count, wire, gate, head, many, parse};
 ghost use Rattle.circuit.specs.Kept.{lent, lent_rest, ReadsAs, Kept, OneMore};
 ghost use Rattle.circuit.specs.Meaning.{circuit_of};
 ghost use Rattle.circuit.specs.Numbers.{bits};
 ghost use Rattle.circuit.specs.Refusals.{Answers};
-ghost use Rattle.circuit.specs.Promises.{Accepts, Reads};
+ghost use Rattle.circuit.specs.Promises.{Reads};
 
 use crate::bytes::number;
 use crate::gates::Gate;
@@ -167,17 +167,12 @@ fn sheet_in(heap: Global, text: &[u8]) -> Result<Sheet, Failure>
     })
 }
 
-// A law of every text, and no code: what it is accepted as is well-formed, and only this text is accepted as it.
-fn accepted(text: &[u8])
-    ensures { Accepts text.now }
-{}
-
 impl Sheet {
     // A sheet from its bytes, all of them.
+    #[tactic(auto, using(crate::proofs::Drafts::laws_of))]
     pub fn read(heap: Global, text: &[u8]) -> Result<Sheet, Failure>
         ensures { Reads text.now result }
     {
-        accepted(text);
         sheet_in(heap, text)
     }
 }

@@ -1,8 +1,8 @@
 // A sheet's bytes.
-ghost use Rattle.std.specs.Prelude.{◌≡◌, ℕ, List, [], ◌∷◌, ◌++◌, Ok, OnOk};
+ghost use Rattle.std.specs.Prelude.{◌≡◌, ℕ, List, [], ◌∷◌, ◌++◌, OnOk};
 ghost use Rattle.std.specs.List.{flat_map};
 ghost use Rattle.circuit.specs.Meaning.{circuit_of};
-ghost use Rattle.circuit.specs.Format.{gate_bytes, body, encode, parse};
+ghost use Rattle.circuit.specs.Format.{gate_bytes, body};
 ghost use Rattle.circuit.specs.Numbers.{digits, binary};
 ghost use Rattle.circuit.specs.Promises.{Writes};
 
@@ -78,17 +78,12 @@ fn put_body(text: &mut Vec<u8>, sheet: &Sheet) -> Result<(), AllocError>
     put_all(text, &sheet.outputs)
 }
 
-// A law of every sheet, and no code: what writes it is read as it.
-fn read_back(sheet: &Sheet)
-    ensures { parse (encode (circuit_of sheet.now)) ≡ Ok (circuit_of sheet.now) }
-{}
-
 impl Sheet {
     // The bytes that `read` reads as this sheet.
+    #[tactic(auto, using(crate::proofs::Lawful::read_back_of))]
     pub fn write(&self, heap: Global) -> Result<Vec<u8>, AllocError>
         ensures { Writes self.now result }
     {
-        read_back(self);
         let mut text = Vec::new(heap);
         text.push(SHEET)?;
         put_body(&mut text, self)?;
