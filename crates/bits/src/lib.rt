@@ -14,7 +14,7 @@ use std::alloc::{AllocError, Global};
 struct Encoding {
     // the byte of a bit 0; that of a bit 1 is the next
     zero: u8,
-    // what a text is told that has another byte, or other than as many as are told
+    // of a text with another byte, or with other than as many bytes as bits are wanted
     refusal: Refusal,
 }
 
@@ -53,7 +53,8 @@ impl Encoding {
             .collect(heap)
     }
 
-    // As many bits as are told. Memory is asked for once the whole text is found good, so that a fault is told however little there is.
+    // As many bits as are told. The whole text is looked at before memory is asked for, so that a
+    // fault is told however little memory there is.
     fn read(self, heap: Global, count: usize, text: &[u8]) -> Result<Vec<bool>, Failure>
         ensures { Answers vec_items result (bits_text self.zero count self.refusal text.now) }
     {
