@@ -122,3 +122,7 @@ laws_of count text typed =
       well_formed = λ ks e. let all = keys_accepted count text ks bytes e in (all.0, all.1);
       one_text = λ ks e. (keys_accepted count text ks bytes e).2;
     }
+
+-- any keys that are not too many, of which each has its sixteen bytes
+pub all_back : (ks : List (List ℕ)) → ((i : ℕ) → i < length ks → length (get_or ks i []) ≡ 16) → length ks ≤ most_keys → keys_for (length ks) (keys_file ks) ≡ Ok ks
+all_back ks each few = whole_back (length ks) ks refl few (All-from_get_or (λ k. length k ≡ 16) ks [] each)

@@ -26,16 +26,11 @@ pub(crate) fn file_of(heap: Global, keys: &[Key]) -> Result<Vec<u8>, AllocError>
     Ok(text)
 }
 
-// A law of all keys, and no code: their file is read as they are.
-fn keys_back(keys: &[Key])
-    ensures { length keys.now ≤ most_keys → keys_for (length keys.now) (keys_file keys.now) ≡ Ok keys.now }
-{}
-
 // A file of keys, which `read_keys` reads as these.
+#[tactic(auto, using(crate::proofs::Filed::all_back))]
 pub fn write_keys(heap: Global, keys: &[Key]) -> Result<Vec<u8>, Failure>
     ensures { Writes keys.now result }
 {
-    keys_back(keys);
     if keys.len() > MOST_KEYS {
         return Err(Failure::Refused(Refusal::Count));
     }
@@ -61,16 +56,11 @@ pub(crate) fn keys_in(text: &[u8]) -> Result<&[Key], Refusal>
     Ok(keys)
 }
 
-// A law of all texts, and no code: what is read from one is keys that write it.
-fn accepted(count: usize, text: &[u8])
-    ensures { Accepts count text.now }
-{}
-
 // As many keys as are told, from their file.
+#[tactic(auto, using(crate::proofs::Filed::laws_of))]
 pub fn read_keys(heap: Global, count: usize, text: &[u8]) -> Result<Vec<Key>, Failure>
     ensures { Reads count text.now result }
 {
-    accepted(count, text);
     let keys = keys_in(text)?;
     if keys.len() != count {
         return Err(Failure::Refused(Refusal::Values));
