@@ -1,5 +1,6 @@
 // Damaged and cut sheets, and the number that each is refused with.
-use circuit::{Failure, Sheet};
+use crate::answers::{refusal, refused};
+use circuit::Sheet;
 use std::alloc::Global;
 use std::process::Abort;
 use std::test::Fail;
@@ -48,59 +49,45 @@ const CASES: &str = "
 3  01 0001 0000 00000002  00000001 00000000 01  00000000 00000000 10
 ";
 
-fn digit(b: u8) -> Option<u8> {
-    match b {
-        b'0'..=b'9' => Some(b - b'0'),
-        b'a'..=b'f' => Some(b - b'a' + 10),
-        _ => None,
-    }
+// A text, and the number that it is refused with, or none where it is read.
+#[derive(Drop)]
+struct Case {
+    text: Vec<u8>,
+    refusal: Option<u8>,
 }
 
-// The number that a text is refused with, or 0 where it is read.
-fn number(heap: Global, text: &[u8]) -> Result<u8, Fail> {
-    match Sheet::read(heap, text) {
-        Ok(_) => Ok(0),
-        Err(Failure::Refused(refusal)) => Ok(u8::from(refusal)),
-        Err(Failure::Memory) => Err(Fail::new("out of memory")),
-    }
-}
-
-// The bytes of hexadecimal digits, two for each.
-fn bytes_of(rt: &impl Abort, heap: Global, digits: &[u8]) -> Result<Vec<u8>, Fail> {
-    let mut text = Vec::new(heap);
-    assert!(rt; digits.len() % 2 == 0);
-    for i in 0..digits.len() / 2 {
-        text.push(digits[2 * i] << 4 | digits[2 * i + 1])?;
-    }
-    Ok(text)
-}
-
-// Whether a line has a case; it fails where the case does not hold.
-fn holds(rt: &impl Abort, heap: Global, line: &str) -> Result<bool, Fail> {
-    let mut digits = Vec::new(heap);
-    for b in line.bytes() {
-        if b == b'#' {
-            break;
-        }
-        if let Some(d) = digit(b) {
-            digits.push(d)?;
-        }
-    }
-    let [expected, rest @ ..] = digits.as_slice() else {
-        return Ok(false);
+// The case of a line, if it has one.
+fn case_of(rt: &impl Abort, heap: Global, line: &str) -> Result<Option<Case>, Fail> {
+    let digits: Vec<u8> = line
+        .chars()
+        .take_while(|c| *c != '#')
+        .filter_map(|c| u8::try_from(c.to_digit(16)?).ok())
+        .collect(heap)?;
+    let [number, digits @ ..] = digits.as_slice() else {
+        return Ok(None);
     };
-    let text = bytes_of(rt, heap, rest)?;
-    assert_eq!(rt; number(heap, text.as_slice())?, *expected, "{}", line);
-    Ok(true)
+    let (bytes, rest) = digits.as_chunks::<2>();
+    assert!(rt; rest.is_empty());
+    Ok(Some(Case {
+        text: bytes
+            .iter()
+            .map(|[high, low]| *high << 4 | *low)
+            .collect(heap)?,
+        refusal: (*number != 0).then_some(*number),
+    }))
 }
 
 #[test]
 fn each_text_has_its_number(rt: HostRuntime) -> Result<(), Fail> {
+    let heap = rt.alloc();
     let mut cases = 0u32;
     for line in CASES.lines() {
-        if holds(&rt, rt.alloc(), line)? {
-            cases = cases.saturating_add(1);
-        }
+        let Some(case) = case_of(&rt, heap, line)? else {
+            continue;
+        };
+        let read = Sheet::read(heap, case.text.as_slice());
+        assert_eq!(rt; refusal(read)?, case.refusal, "{}", line);
+        cases = cases.saturating_add(1);
     }
     assert_eq!(rt; cases, 34);
     Ok(())
@@ -108,10 +95,11 @@ fn each_text_has_its_number(rt: HostRuntime) -> Result<(), Fail> {
 
 #[test]
 fn every_cut_is_refused(rt: HostRuntime) -> Result<(), Fail> {
+    let heap = rt.alloc();
     let text = b"\x01\0\x02\0\x01\0\0\0\x01\0\0\0\0\0\0\0\x01\x01\0\x01\0\0\0\x02";
-    assert_eq!(rt; number(rt.alloc(), text)?, 0);
+    assert_eq!(rt; refusal(Sheet::read(heap, text))?, None);
     for n in 0..text.len() {
-        assert_eq!(rt; number(rt.alloc(), &text[0..n])?, 1);
+        refused(&rt, Sheet::read(heap, &text[..n]), 1)?;
     }
     Ok(())
 }

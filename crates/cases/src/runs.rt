@@ -1,7 +1,7 @@
 // Sheets that are run, and written as they were read.
-use circuit::{Failure, Refusal, Sheet};
+use crate::answers::{gives, refused};
+use circuit::Sheet;
 use std::alloc::{AllocError, Global};
-use std::process::Abort;
 use std::test::Fail;
 
 // Two inputs; gate 0 is and of both, gate 1 exclusive or of wire 0 with itself, gate 2 not of gate 0, its left wire, and gate 3
@@ -10,100 +10,48 @@ const MIXED: &[u8; 71] = b"\x01\0\x02\0\x01\0\0\0\x04\
     \0\0\0\0\0\0\0\x01\x01\0\0\0\0\0\0\0\0\x06\0\0\0\x02\0\0\0\x01\x0c\0\0\0\0\0\0\0\x01\x02\
     \0\x06\0\0\0\x02\0\0\0\x04\0\0\0\x03\0\0\0\x05\0\0\0\x01\0\0\0\x02";
 
-fn gives(
-    rt: &impl Abort,
-    heap: Global,
-    sheet: &Sheet,
-    inputs: &[bool],
-    expected: &[bool],
-) -> Result<(), Fail> {
-    let result = sheet.run(heap, inputs)?;
-    assert!(rt; result.as_slice() == expected);
-    Ok(())
-}
-
-fn evaluates(
-    rt: &impl Abort,
-    heap: Global,
-    sheet: &Sheet,
-    inputs: &[bool],
-    expected: &[bool],
-) -> Result<(), Fail> {
-    let values = sheet.values(heap, inputs)?;
-    assert!(rt; values.len() == sheet.wire_count() && values.as_slice() == expected);
-    Ok(())
-}
-
-fn written(rt: &impl Abort, heap: Global, sheet: &Sheet, expected: &[u8]) -> Result<(), Fail> {
-    let text = sheet.write(heap)?;
-    assert!(rt; text.as_slice() == expected);
-    Ok(())
-}
-
 #[test]
 fn shared_and_repeated_wires(rt: HostRuntime) -> Result<(), Fail> {
     let heap = rt.alloc();
     let sheet = Sheet::read(heap, MIXED)?;
     gives(
         &rt,
-        heap,
-        &sheet,
-        &[false, false],
+        sheet.run(heap, &[false, false]),
         &[false, true, false, false, false, false],
     )?;
     gives(
         &rt,
-        heap,
-        &sheet,
-        &[false, true],
+        sheet.run(heap, &[false, true]),
         &[false, true, false, false, true, false],
     )?;
     gives(
         &rt,
-        heap,
-        &sheet,
-        &[true, false],
+        sheet.run(heap, &[true, false]),
         &[false, true, false, true, false, false],
     )?;
     gives(
         &rt,
-        heap,
-        &sheet,
-        &[true, true],
+        sheet.run(heap, &[true, true]),
         &[true, false, false, false, true, true],
     )?;
-    evaluates(
+    gives(
         &rt,
-        heap,
-        &sheet,
-        &[true, false],
+        sheet.values(heap, &[true, false]),
         &[true, false, false, false, true, true],
     )?;
-    written(&rt, heap, &sheet, MIXED)
-}
-
-fn refuses_values(rt: &impl Abort, heap: Global, sheet: &Sheet, inputs: &[bool]) {
-    assert!(rt;
-        matches!(
-            sheet.run(heap, inputs),
-            Err(Failure::Refused(Refusal::Values))
-        )
-    );
-    assert!(rt;
-        matches!(
-            sheet.values(heap, inputs),
-            Err(Failure::Refused(Refusal::Values))
-        )
-    );
+    assert_eq!(rt; sheet.wire_count(), 6);
+    gives(&rt, sheet.write(heap), MIXED)
 }
 
 #[test]
 fn other_than_as_many_values(rt: HostRuntime) -> Result<(), Fail> {
     let heap = rt.alloc();
     let sheet = Sheet::read(heap, MIXED)?;
-    refuses_values(&rt, heap, &sheet, &[]);
-    refuses_values(&rt, heap, &sheet, &[true]);
-    refuses_values(&rt, heap, &sheet, &[true, true, true]);
+    let inputs: [&[bool]; 3] = [&[], &[true], &[true, true, true]];
+    for values in inputs {
+        refused(&rt, sheet.run(heap, values), 7)?;
+        refused(&rt, sheet.values(heap, values), 7)?;
+    }
     Ok(())
 }
 
@@ -127,6 +75,6 @@ fn as_many_gates_as_may_be(rt: HostRuntime) -> Result<(), Fail> {
     let heap = rt.alloc();
     let text = chain(heap)?;
     let sheet = Sheet::read(heap, text.as_slice())?;
-    gives(&rt, heap, &sheet, &[true], &[true; 1024])?;
-    written(&rt, heap, &sheet, text.as_slice())
+    gives(&rt, sheet.run(heap, &[true]), &[true; 1024])?;
+    gives(&rt, sheet.write(heap), text.as_slice())
 }
