@@ -1,7 +1,7 @@
 //! Prints the coins that pair those of one input with those of another, or the first output in which the two differ.
 #![tactic(auto)]
 
-use circuit::{Failure, Refusal, Sheet};
+use circuit::{Failure, Sheet};
 use scheme::Pairing;
 use std::alloc::AllocError;
 use std::fs::File;
@@ -33,24 +33,20 @@ What does not fit is refused: `refused: N` on standard error, and status 1.
 #[derive(Drop)]
 enum Stop {
     Usage,
-    Refused(Refusal),
-    Memory,
+    Failed(Failure),
     Unreadable(String, io::Error),
     Io(io::Error),
 }
 
 impl From<Failure> for Stop {
     fn from(e: Failure) -> Stop {
-        match e {
-            Failure::Refused(refusal) => Stop::Refused(refusal),
-            Failure::Memory => Stop::Memory,
-        }
+        Stop::Failed(e)
     }
 }
 
 impl From<AllocError> for Stop {
-    fn from(_e: AllocError) -> Stop {
-        Stop::Memory
+    fn from(e: AllocError) -> Stop {
+        Stop::Failed(Failure::from(e))
     }
 }
 
@@ -67,8 +63,8 @@ impl fmt::Display for Stop {
                 f,
                 "usage: pair SHEET FIRST SECOND COINS (more by pair --help)"
             ),
-            Stop::Refused(refusal) => write!(f, "{refusal}"),
-            Stop::Memory => write!(f, "pair: out of memory"),
+            Stop::Failed(Failure::Refused(refusal)) => write!(f, "{refusal}"),
+            Stop::Failed(Failure::Memory) => write!(f, "pair: out of memory"),
             Stop::Unreadable(path, e) => write!(f, "pair: cannot read {path}: {e}"),
             Stop::Io(e) => write!(f, "pair: {e}"),
         }
@@ -93,26 +89,24 @@ fn file(rt: &HostRuntime, path: &str) -> Result<Vec<u8>, Stop> {
     }
 }
 
+// The values in a file.
+fn values(rt: &HostRuntime, path: &str, count: usize) -> Result<Vec<bool>, Stop> {
+    let text = file(rt, path)?;
+    Ok(bits::read_values(rt.alloc(), count, &text)?)
+}
+
 // Reads the files in their order, each to its end or its first fault, and prints the answer.
 fn pair(rt: &HostRuntime, sheet: &str, first: &str, second: &str, coins: &str) -> Result<(), Stop> {
     let heap = rt.alloc();
     let text = file(rt, sheet)?;
-    let sheet = Sheet::read(heap, text.as_slice())?;
+    let sheet = Sheet::read(heap, &text)?;
     let inputs = sheet.inputs as usize;
-    let text = file(rt, first)?;
-    let first = bits::read_values(heap, inputs, text.as_slice())?;
-    let text = file(rt, second)?;
-    let second = bits::read_values(heap, inputs, text.as_slice())?;
+    let first = values(rt, first, inputs)?;
+    let second = values(rt, second, inputs)?;
     let text = file(rt, coins)?;
-    let coins = bits::read_line(heap, sheet.wire_count(), text.as_slice())?;
-    match scheme::pair(
-        heap,
-        &sheet,
-        first.as_slice(),
-        second.as_slice(),
-        coins.as_slice(),
-    )? {
-        Pairing::Coins(paired) => rt.println(bits::line_of(heap, paired.as_slice())?)?,
+    let coins = bits::read_line(heap, sheet.wire_count(), &text)?;
+    match scheme::pair(heap, &sheet, &first, &second, &coins)? {
+        Pairing::Coins(paired) => rt.println(bits::line_of(heap, &paired)?)?,
         Pairing::Differ(output) => println!(rt; "output {output} differs")?,
     }
     Ok(())
@@ -122,13 +116,7 @@ fn run(rt: &HostRuntime) -> Result<(), Stop> {
     let args: Vec<String> = env::args(rt)?.collect(rt.alloc())?;
     match args.as_slice() {
         [_, help] if help.as_str() == "--help" => Ok(rt.println(HELP)?),
-        [_, sheet, first, second, coins] => pair(
-            rt,
-            sheet.as_str(),
-            first.as_str(),
-            second.as_str(),
-            coins.as_str(),
-        ),
+        [_, sheet, first, second, coins] => pair(rt, sheet, first, second, coins),
         _ => Err(Stop::Usage),
     }
 }
