@@ -1,6 +1,6 @@
 // Damaged and cut sheets, and the number that each is refused with.
 use crate::answers::{refusal, refused};
-use circuit::Sheet;
+use circuit::{Refusal, Sheet};
 use std::alloc::Global;
 use std::process::Abort;
 use std::test::Fail;
@@ -101,5 +101,12 @@ fn every_cut_is_refused(rt: HostRuntime) -> Result<(), Fail> {
     for n in 0..text.len() {
         refused(&rt, Sheet::read(heap, &text[..n]), 1)?;
     }
+    Ok(())
+}
+
+#[test]
+fn its_text_has_the_number(rt: HostRuntime) -> Result<(), Fail> {
+    let text = format!(in rt.alloc(); "{}", Refusal::NotMade)?;
+    assert!(rt; text.as_str() == "refused: 3");
     Ok(())
 }

@@ -1,13 +1,14 @@
 //! Prints the coins that pair those of one input with those of another, or the first output in which the two differ.
 #![tactic(auto)]
 
-use circuit::{Failure, Sheet};
+use circuit::{Failure, Refusal, Sheet};
 use scheme::Pairing;
 use std::alloc::AllocError;
 use std::fs::File;
 use std::io::Read;
 use std::process::ExitCode;
-use std::{env, fmt, io};
+use std::{env, io};
+use thiserror::Error;
 
 const HELP: &str = "usage: pair SHEET FIRST SECOND COINS
 
@@ -30,43 +31,25 @@ What does not fit is refused: `refused: N` on standard error, and status 1.
   7  values that are not one byte 0 or 1 for each input";
 
 // Why there is nothing to print.
-#[derive(Drop)]
+#[derive(Debug, Drop, Error)]
 enum Stop {
+    #[error("usage: pair SHEET FIRST SECOND COINS (more by pair --help)")]
     Usage,
-    Failed(Failure),
+    #[error("{0}")]
+    Refused(Refusal),
+    #[error("pair: out of memory")]
+    Memory(#[from] AllocError),
+    #[error("pair: cannot read {0}: {1}")]
     Unreadable(String, io::Error),
-    Io(io::Error),
+    #[error("pair: {0}")]
+    Io(#[from] io::Error),
 }
 
 impl From<Failure> for Stop {
     fn from(e: Failure) -> Stop {
-        Stop::Failed(e)
-    }
-}
-
-impl From<AllocError> for Stop {
-    fn from(e: AllocError) -> Stop {
-        Stop::Failed(Failure::from(e))
-    }
-}
-
-impl From<io::Error> for Stop {
-    fn from(e: io::Error) -> Stop {
-        Stop::Io(e)
-    }
-}
-
-impl fmt::Display for Stop {
-    fn fmt<W: fmt::Write>(&self, f: &mut fmt::Formatter<W>) -> fmt::Result {
-        match self {
-            Stop::Usage => write!(
-                f,
-                "usage: pair SHEET FIRST SECOND COINS (more by pair --help)"
-            ),
-            Stop::Failed(Failure::Refused(refusal)) => write!(f, "{refusal}"),
-            Stop::Failed(Failure::Memory) => write!(f, "pair: out of memory"),
-            Stop::Unreadable(path, e) => write!(f, "pair: cannot read {path}: {e}"),
-            Stop::Io(e) => write!(f, "pair: {e}"),
+        match e {
+            Failure::Refused(refusal) => Stop::Refused(refusal),
+            Failure::Memory => Stop::Memory(AllocError),
         }
     }
 }
