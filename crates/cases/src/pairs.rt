@@ -82,6 +82,7 @@ fn difference(
     }
 }
 
+// Not a loop over a table: its rows would be these lines.
 #[test]
 fn the_first_output_that_differs(rt: HostRuntime) -> Result<(), Fail> {
     let heap = rt.alloc();
@@ -130,11 +131,10 @@ fn lines(rt: HostRuntime) -> Result<(), Fail> {
         &[true, false, true],
     )?;
     gives(&rt, bits::read_line(heap, 0, b"\n"), &[])?;
-    refused(&rt, bits::read_line(heap, 3, b"10"), 1)?;
-    refused(&rt, bits::read_line(heap, 3, b"101\n\n"), 1)?;
-    refused(&rt, bits::read_line(heap, 3, b"10 "), 1)?;
-    refused(&rt, bits::read_line(heap, 3, b"102"), 1)?;
-    refused(&rt, bits::read_line(heap, 3, b"\x01\0\x01"), 1)?;
+    let others: [&[u8]; 5] = [b"10", b"101\n\n", b"10 ", b"102", b"\x01\0\x01"];
+    for text in others {
+        refused(&rt, bits::read_line(heap, 3, text), 1)?;
+    }
     assert!(rt; bits::line_of(heap, &[true, false, true])?.as_str() == "101");
     Ok(())
 }

@@ -87,15 +87,15 @@ module _ {A : Type 0} (d : Drawn A) where
   value_alike same = refl
   value_alike (flip e) = sym (value_alike e)
   value_alike (chain e f) = value_alike e ∙ value_alike f
-  value_alike (regroup t u v) = bytes_assoc (value d t) (value d u) (value d v)
+  value_alike (regroup t u v) = grind (arith, bytes_assoc)
   value_alike (swap t u) = bytes_comm (value d t) (value d u)
   value_alike (unit t) = rw no_bytes (bytes_zero 16 (value d t) (value_size t))
   value_alike (twice t) = rw no_bytes (bytes_self 16 (value d t) (value_size t))
   value_alike (numbers m n) = bytes_digits 16 m n
   value_alike (wraps n) = sym (digits_wrap 16 n)
   value_alike (in_xor e f) = ap₂ xor_bytes (value_alike e) (value_alike f)
-  value_alike (in_pad e) = ap (λ (p : List (List ℕ) × List ℕ). d.hash p.0 p.1) (value_alike e)
-  value_alike (in_text e f) = ap₂ (λ (k : List ℕ) (p : List (List ℕ) × List ℕ). (k ∷ p.0, p.1)) (value_alike e) (value_alike f)
+  value_alike (in_pad e) = grind (arith, value_alike e)
+  value_alike (in_text e f) = grind (arith, value_alike e, value_alike f)
 
 pub sound : {A : Type 0} → Sound A
 sound d s t u e = value_alike d e

@@ -23,7 +23,7 @@ module _ {X Y : Type 0} (R : X → Y → Type 0) (f : ℕ → X) (g : ℕ → Y)
       (counted_beside (a + 1) n (λ i below. let e : a + suc i ≡ a + 1 + i = omega arith in rw e at (h (suc i) (omega arith))))
 
   pub tabulate_beside : (n : ℕ) → ((i : ℕ) → i < n → R (f i) (g i)) → Forall₂ R (tabulate n f) (tabulate n g)
-  tabulate_beside n h = counted_beside 0 n (λ i below. let e : 0 + i ≡ i = omega arith in rw e (h i below))
+  tabulate_beside n h = grind (arith, counted_beside)
 
 pub map_map_beside : {X Y Z W : Type 0} (R : Z → W → Type 0) (f : X → Z) (g : Y → W) {xss : List (List X)} {yss : List (List Y)} →
     Forall₂ (Forall₂ (λ x y. R (f x) (g y))) xss yss → Forall₂ (Forall₂ R) (map (map f) xss) (map (map g) yss)

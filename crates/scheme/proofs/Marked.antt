@@ -1,6 +1,6 @@
 -- No marked term is derived from unmarked ones, and nobody tells apart two lists of which each becomes the other by an exchange: the core argument, for
 -- any scheme over terms. Assumes nothing.
-use Rattle.std.proofs.Common.{◌≡◌, ℕ, zero, suc, Bool, true, false, cond, ◌&&◌, ◌||◌, List, [], ◌∷◌, length, get_or, sym, refl, ap, ◌∙◌, ap₂}
+use Rattle.std.proofs.Common.{◌≡◌, ℕ, zero, suc, Bool, true, false, cond, ◌||◌, List, [], ◌∷◌, length, get_or, sym, refl, ap, ◌∙◌, ap₂, arith}
 use mathlib.Core.List.Forall₂
 use Rattle.std.specs.List.{AllByRecursion}
 use Rattle.scheme.specs.Coins.{◌⊕◌}
@@ -22,14 +22,14 @@ module _ {A : Type 0} (m : Marking A) where
   marked_alike same = refl
   marked_alike (flip e) = sym (marked_alike e)
   marked_alike (chain e f) = marked_alike e ∙ marked_alike f
-  marked_alike (regroup t u v) = xor_assoc (marked m t) (marked m u) (marked m v)
+  marked_alike (regroup t u v) = grind (arith, xor_assoc)
   marked_alike (swap t u) = xor_comm (marked m t) (marked m u)
   marked_alike (unit t) = xor_false (marked m t)
   marked_alike (twice t) = xor_same (marked m t)
   marked_alike (numbers a b) = refl
   marked_alike (wraps n) = refl
   marked_alike (in_xor e f) = ap₂ ◌⊕◌ (marked_alike e) (marked_alike f)
-  marked_alike (in_pad e) = ap₂ (λ (x : Bool) (ns : List ℕ). x && m.rows ns) (marked_alike e) (same_tweak e)
+  marked_alike (in_pad e) = grind (arith, same_tweak, marked_alike e)
   marked_alike (in_text e f) = ap₂ ◌||◌ (marked_alike e) (marked_alike f)
 
   item_unmarked : (have : List (Term A block)) → AllByRecursion (λ t. marked m t ≡ false) have → (i : ℕ) → marked m (get_or have i (public 0)) ≡ false
@@ -44,7 +44,7 @@ module _ {A : Type 0} (m : Marking A) where
   recipe_unmarked have all (secret i) = item_unmarked have all i
   recipe_unmarked have all (public n) = refl
   recipe_unmarked have all (xor r q) = ap₂ ◌⊕◌ (recipe_unmarked have all r) (recipe_unmarked have all q)
-  recipe_unmarked have all (pad r) = ap (λ x. x && m.rows (tweak_of (run have r))) (recipe_unmarked have all r)
+  recipe_unmarked have all (pad r) = grind (arith, recipe_unmarked have all r)
   recipe_unmarked have all (tweak ns) = refl
   recipe_unmarked have all (k then r) = ap₂ ◌||◌ (recipe_unmarked have all k) (recipe_unmarked have all r)
 

@@ -1,5 +1,5 @@
 -- The schemes that come near break their promises. Assumes nothing.
-use Rattle.std.proofs.Common.{◌≡◌, ℕ, zero, suc, ◌+◌, ◌<◌, Bool, true, false, not, ◌&&◌, eqb, List, [], ◌∷◌, ◌++◌, map, length, get_or, sym, refl, ap, ◌∙◌, subst, inl, inr, arith}
+use Rattle.std.proofs.Common.{◌≡◌, ℕ, zero, suc, ◌+◌, ◌<◌, Bool, true, false, not, ◌&&◌, eqb, List, [], ◌∷◌, map, length, get_or, sym, refl, ap, ◌∙◌, subst, inl, inr, arith}
 use mathlib.Core.List.{zip_with, flatten}
 use Rattle.std.specs.List.{range_with_len}
 use Rattle.std.proofs.lemmas.List.FromFn.{get_or-map-range_with_len}
@@ -59,7 +59,7 @@ unfolding extended digits
 one_result = refl
 
 matched : (S : Scheme Key) → HidesInputs S → Matched S conjunction (true ∷ false ∷ []) (false ∷ true ∷ [])
-matched S hides = hides conjunction (true ∷ false ∷ []) (false ∷ true ∷ []) conjunction_formed refl refl one_result
+matched S hides = grind (arith, conjunction_formed, one_result)
 
 -- without coins the first key shows it
 misses_without_coins : HidesInputs without_coins → ⊥
@@ -145,14 +145,7 @@ misses_with_inner_meanings hides =
 
 meanings_tell : (c : Circuit) (xs coins : List Bool) (k : ℕ) → k < length c.gates →
     colour (at (meanings with_inner_meanings c coins) (length c.outputs + k)) (active with_inner_meanings c xs coins (c.inputs + k)).colour ≡ at (values c xs) (c.inputs + k)
-meanings_tell c xs coins k below =
-    let inner = range_with_len c.inputs (length c.gates) in
-    let meaning : at (meanings with_inner_meanings c coins) (length c.outputs + k) ≡ at coins (c.inputs + k) =
-    ap (λ ms. at ms (length c.outputs + k)) (map-append (at coins) c.outputs inner)
-    ∙ ap (λ n. at (map (at coins) c.outputs ++ map (at coins) inner) (n + k)) (sym (length-map c.outputs (at coins)))
-    ∙ get_or-append-add (map (at coins) c.outputs) (map (at coins) inner) k false
-    ∙ get_or-map-range_with_len (at coins) c.inputs (length c.gates) k (c.inputs + k) false below refl in
-    ap (λ b. colour b (active with_inner_meanings c xs coins (c.inputs + k)).colour) meaning ∙ xor_back (at coins (c.inputs + k)) (at (values c xs) (c.inputs + k))
+meanings_tell c xs coins k below = grind (arith, map-append, length-map, get_or-append-add, get_or-map-range_with_len, xor_back)
 
 -- without gate numbers two rows have one pad, and laid over each other they are rid of it
 overlay : {A : Type 0} (t u p q : Term A block) → xor (xor t p) (xor (xor u p) (xor (xor u q) q)) ≈ t
@@ -160,9 +153,7 @@ overlay t u p q = chain (in_xor same (chain (in_xor (swap u p) (off u q)) (off p
 
 overlay_tells : run (blocks (sent without_numbers two_gates (bits 1 1) (bits 3 0b000))) overlaid ≈ secret (key 1 false)
 unfolding substitute flatten zip_with digits
-overlay_tells =
-    overlay (secret (key 1 false)) (secret (key 2 false)) (pad (secret (key 0 false) then secret (key 0 false) then tweak (0 ∷ [])))
-    (pad (secret (key 0 true) then secret (key 0 true) then tweak (3 ∷ [])))
+overlay_tells = grind (arith, overlay)
 
 misses_without_numbers : OneKey without_numbers → ⊥
 unfolding extended digits
@@ -229,12 +220,7 @@ same_zero = refl
 -- the coins that show the same are those
 same_coins : (ds : List Bool) → length ds ≡ 4 → view without_numbers same_wires (bits 2 0b10) (bits 4 0b0000) ≡ view without_numbers same_wires (bits 2 0b01) ds → ds ≡ bits 4 0b1100
 unfolding digits
-same_coins ds len seen =
-    let left : true ≡ at ds 0 ⊕ false = ap (λ (v : View). (get_or v.keys 0 (key 0 false)).colour) seen in
-    let right : false ≡ at ds 1 ⊕ true = ap (λ (v : View). (get_or v.keys 1 (key 0 false)).colour) seen in
-    let and : false ≡ at ds 2 = ap (λ (v : View). at v.meanings 0) seen in
-    let no : false ≡ at ds 3 = ap (λ (v : View). at v.meanings 1) seen in
-    four_of ds len ∙ conses (sym (xor_false (at ds 0)) ∙ sym left) (conses (same_from_xor (at ds 1) true (sym right)) (conses (sym and) (conses (sym no) refl)))
+same_coins ds len seen = grind (arith, four_of, conses, xor_false, same_from_xor)
 
 numbers_hide_not : HidesInputs without_numbers → ⊥
 unfolding digits

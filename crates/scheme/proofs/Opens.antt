@@ -26,7 +26,7 @@ use Rattle.scheme.proofs.Tables.{row_entry}
 pub text_value : (d : Drawn Key) (ks : List Key) (ns : List ℕ) → value d (text_of (map secret ks) ns) ≡ (map d.secrets ks, ns)
 unfolding value
 text_value d [] ns = refl
-text_value d (k ∷ ks) ns = ap (λ (p : List (List ℕ) × List ℕ). (d.secrets k ∷ p.0, p.1)) (text_value d ks ns)
+text_value d (k ∷ ks) ns = grind (arith, text_value d ks ns)
 
 -- a pad added twice is gone
 taken_off : (d : Drawn Key) (t u : Term Key block) → xor_bytes (value d (xor t u)) (value d u) ≡ value d t
@@ -50,11 +50,11 @@ module _ (coin : List Bool → ℕ → Bool) (tweak : Tweak) (decoded : Circuit 
 
   held_of : (n : ℕ) (ws : List ℕ) → AllByRecursion (λ w. w < n) ws → held_at (tabulate n held) ws ≡ map held ws
   held_of n [] all = refl
-  held_of n (w ∷ ws) all = conses (get_or-map-range_with_len held 0 n w w [] all.0 (omega arith)) (held_of n ws all.1)
+  held_of n (w ∷ ws) all = grind (arith, conses, get_or-map-range_with_len, held_of n ws all.1)
 
   colours_held : (ws : List ℕ) → AllByRecursion (λ w. w < wire_count c) ws → map colour_of (map held ws) ≡ map shade ws
   colours_held [] all = refl
-  colours_held (w ∷ ws) all = conses (shown (active S c xs coins w) all.0) (colours_held ws all.1)
+  colours_held (w ∷ ws) all = grind (arith, conses, colours_held ws all.1)
 
   secrets_held : (ws : List ℕ) → map d.secrets (map (active S c xs coins) ws) ≡ map held ws
   secrets_held [] = refl

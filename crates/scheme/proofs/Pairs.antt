@@ -11,13 +11,13 @@ use Rattle.scheme.proofs.Colours.{xor_twice}
 use Rattle.scheme.proofs.Rows.{input_value}
 
 paired_size : (c : Circuit) (xs ys coins : List Bool) → length (coins_of_pair c xs ys coins) ≡ length coins
-paired_size c xs ys coins = length-map-range_with_len (λ w. at coins w ⊕ at (values c xs) w ⊕ at (values c ys) w) 0 (length coins)
+paired_size c xs ys coins = grind (arith, length-map-range_with_len)
 
 paired_at : (c : Circuit) (xs ys coins : List Bool) (w : ℕ) → w < length coins → at (coins_of_pair c xs ys coins) w ≡ active_colour c xs coins w ⊕ at (values c ys) w
-paired_at c xs ys coins w below = get_or-map-range_with_len (λ w. at coins w ⊕ at (values c xs) w ⊕ at (values c ys) w) 0 (length coins) w w false below (omega arith)
+paired_at c xs ys coins w below = grind (arith, get_or-map-range_with_len)
 
 keeps_colours : (c : Circuit) (xs ys coins : List Bool) (w : ℕ) → w < length coins → active_colour c ys (coins_of_pair c xs ys coins) w ≡ active_colour c xs coins w
-keeps_colours c xs ys coins w below = ap (λ b. b ⊕ at (values c ys) w) (paired_at c xs ys coins w below) ∙ xor_twice (active_colour c xs coins w) (at (values c ys) w)
+keeps_colours c xs ys coins w below = grind (arith, paired_at, xor_twice)
 
 pairs_back : (c : Circuit) (xs ys coins : List Bool) → coins_of_pair c ys xs (coins_of_pair c xs ys coins) ≡ coins
 pairs_back c xs ys coins =
@@ -28,8 +28,7 @@ pairs_back c xs ys coins =
     sym (ap (λ b. b ⊕ at (values c xs) w) (keeps_colours c xs ys coins w within) ∙ xor_twice (at coins w) (at (values c xs) w))))
 
 keeps_coins : (c : Circuit) (xs ys coins : List Bool) (w : ℕ) → w < length coins → at (values c xs) w ≡ at (values c ys) w → at (coins_of_pair c xs ys coins) w ≡ at coins w
-keeps_coins c xs ys coins w below same =
-    paired_at c xs ys coins w below ∙ ap (λ b. active_colour c xs coins w ⊕ b) (sym same) ∙ xor_twice (at coins w) (at (values c xs) w)
+keeps_coins c xs ys coins w below same = grind (arith, paired_at, xor_twice)
 
 -- wires with the same values keep their coins
 kept_all : (c : Circuit) (xs ys coins : List Bool) (ws : List ℕ) → ((k : ℕ) → k < length ws → get_or ws k 0 < length coins) →
@@ -72,4 +71,4 @@ module _ (c : Circuit) (xs ys coins : List Bool) (good : WellFormed c) (xs_fit :
   kept_outputs one_result = kept_all c xs ys coins c.outputs (λ k below. rw coins_fit (good.5 k below)) one_result
 
   pub zipped : map (λ (w : (Bool × Bool) × Bool). (w.0).0 ⊕ (w.0).1 ⊕ w.1) (zip (zip coins (values c xs)) (values c ys)) ≡ coins_of_pair c xs ys coins
-  zipped = paired_zip coins (values c xs) (values c ys) ((assigned c xs good xs_fit).size ∙ sym coins_fit) ((assigned c ys good ys_fit).size ∙ sym coins_fit)
+  zipped = grind (arith, paired_zip, assigned)

@@ -1,7 +1,6 @@
 -- The marking of keys that are not held. Tables may hold what they like but where all keys of a row are held: then what is sent has no mark, and becomes, by an
 -- exchange, what is sent with other tables of that kind. Assumes nothing.
 use Rattle.std.proofs.Common.{◌≡◌, ℕ, ◌+◌, ◌<◌, Bool, true, false, cond, not, ◌&&◌, ◌||◌, ltb, List, [], ◌∷◌, ◌++◌, map, length, sym, refl, ap, ◌∙◌, ap₂, arith}
-use mathlib.Core.Bool.{not-not}
 use mathlib.Core.List.{zip_with, flatten}
 use mathlib.Mathlib.Data.List.Forall2.{rel-append, rel-flatten}
 use Rattle.std.specs.List.{AllByRecursion}
@@ -57,7 +56,7 @@ module _ (tweak : Tweak) (order : ℕ → ℕ → List Bool) (c : Circuit) (on :
   unmarked_key k e = go (ltb k.wire (wire_count c)) refl e
     where
       go : (b : Bool) → ltb k.wire (wire_count c) ≡ b → cond b (k.colour ⊕ act k.wire) true ≡ false → (k.wire < wire_count c) × (k.colour ≡ act k.wire)
-      go true is e = (ltb-true k.wire (wire_count c) is, same_from_xor k.colour (act k.wire) e)
+      go true is e = grind (arith, ltb-true, same_from_xor)
       go false is e = absurd (true≢false e)
 
   -- the row that a tweak tells
@@ -72,7 +71,7 @@ module _ (tweak : Tweak) (order : ℕ → ℕ → List Bool) (c : Circuit) (on :
       marked (marking held) (text_of (map secret ks) ns) ≡ not (all_held act ks)
   unfolding marked
   marked_text held [] ns all = refl
-  marked_text held (k ∷ ks) ns all = ap₂ ◌||◌ (within k all.0 ∙ sym (not-not (k.colour ⊕ act k.wire))) (marked_text held ks ns all.1) ∙ not_and (not (k.colour ⊕ act k.wire)) (all_held act ks)
+  marked_text held (k ∷ ks) ns all = grind (arith, within, not_and, marked_text held ks ns all.1)
 
   -- keys stand for themselves
   abbrev keeping : (List ℕ → Term Key block) → Exchange Key
@@ -102,7 +101,7 @@ module _ (tweak : Tweak) (order : ℕ → ℕ → List Bool) (c : Circuit) (on :
 
       -- where all keys are held, both hold the key that is held
       open_holds : (h : ℕ → List Bool → Bool) → Lawful h → all_held act (keys_for k cs) ≡ true → h k cs ≡ act (c.inputs + k)
-      open_holds h lawful all = ap (h k) (colours_held act (gate_at c k).wires cs len all) ∙ lawful k below
+      open_holds h lawful all = grind (arith, colours_held)
 
       -- in a row that is closed the marks cancel, and one that is open has none
       row_unmarked : marked (marking held) (cipher secret (row_of tweak c k cs (held k cs))) ≡ false
@@ -114,7 +113,7 @@ module _ (tweak : Tweak) (order : ℕ → ℕ → List Bool) (c : Circuit) (on :
           mark = missing (key (c.inputs + k) (held k cs))
 
           go : (b : Bool) → all_held act (keys_for k cs) ≡ b → mark ⊕ (not b && mark) ≡ false
-          go true all = ap (λ b. b ⊕ false) (ap (λ b. missing (key (c.inputs + k) b)) (open_holds held mine all) ∙ held_unmarked (c.inputs + k) (omega arith))
+          go true all = grind (arith, open_holds, held_unmarked)
           go false some = xor_same mark
 
     -- the block that stands for the pad of a closed row: with the key in it, it makes the other's row

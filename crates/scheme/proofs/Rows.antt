@@ -1,5 +1,5 @@
 -- Rows and the keys that are held: a row looks open just if its colours are those held; and what is asked of tables for the argument to hold. Assumes nothing.
-use Rattle.std.proofs.Common.{◌≡◌, ℕ, ◌+◌, ◌^◌, ◌<◌, Bool, true, false, cond, not, List, [], ◌∷◌, map, length, sym, refl, ap, ◌∙◌, arith}
+use Rattle.std.proofs.Common.{◌≡◌, ℕ, ◌+◌, ◌^◌, ◌<◌, Bool, true, false, not, List, [], ◌∷◌, map, length, sym, refl, ap, ◌∙◌, arith}
 use mathlib.Core.List.{zip_with}
 use Rattle.std.specs.List.{AllByRecursion}
 use Rattle.std.proofs.ByRecursion.{All-weaker}
@@ -9,7 +9,7 @@ use Rattle.circuit.specs.Circuit.{Circuit, WellFormed, wire_count, at, at_all, v
 use Rattle.circuit.specs.Numbers.{binary}
 use Rattle.circuit.proofs.Values.{assigned, two_of}
 use Rattle.scheme.specs.Coins.{◌⊕◌, colour}
-use Rattle.scheme.specs.Garbling.{key, Row, opened, closed, all_held, look}
+use Rattle.scheme.specs.Garbling.{key, Row, opened, all_held, look}
 use Rattle.scheme.specs.Opening.{Tweak}
 use Rattle.scheme.specs.Yao.{gate_at, turned, held_for}
 use Rattle.scheme.proofs.Colours.{xor_same, same_from_xor, xor_back}
@@ -40,10 +40,10 @@ input_value c good xs fit w below = sym (get_or-take c.inputs (values c xs) w fa
 
 -- a gate takes wires made before its own
 pub gate_wires : (c : Circuit) → WellFormed c → (k : ℕ) → k < length c.gates → AllByRecursion (λ w. w < c.inputs + k) (gate_at c k).wires
-gate_wires c good k below = let g = good.4 k below in rw (two_of (gate_at c k).wires g.0) (g.1, (g.2, tt))
+gate_wires c good k below = grind (arith, two_of)
 
 pub wires_below : (c : Circuit) → WellFormed c → (k : ℕ) → k < length c.gates → AllByRecursion (λ w. w < wire_count c) (gate_at c k).wires
-wires_below c good k below = All-weaker (λ w. w < c.inputs + k) (λ w. w < wire_count c) (λ w small. omega arith) (gate_at c k).wires (gate_wires c good k below)
+wires_below c good k below = grind (arith, All-weaker, gate_wires)
 
 pub keys_below : (n : ℕ) (ws : List ℕ) (cs : List Bool) → AllByRecursion (λ w. w < n) ws → AllByRecursion (λ k. k.wire < n) (zip_with key ws cs)
 unfolding zip_with
@@ -61,7 +61,7 @@ module _ (coin : ℕ → Bool) (vs : List Bool) where
   pub turned_values : (ws : List ℕ) → turned coin ws (at_all vs ws) ≡ map (λ w. colour (coin w) (at vs w)) ws
   unfolding zip_with
   turned_values [] = refl
-  turned_values (w ∷ ws) = ap (λ bs. colour (coin w) (at vs w) ∷ bs) (turned_values ws)
+  turned_values (w ∷ ws) = grind (arith, turned_values ws)
 
 -- the row for the keys of the values holds the key of the gate's value
 pub active_row : (c : Circuit) → WellFormed c → (xs : List Bool) → length xs ≡ c.inputs → (coin : ℕ → Bool) (k : ℕ) → k < length c.gates →
@@ -83,7 +83,7 @@ module _ (held : ℕ → Bool) where
   all_held_there (w ∷ ws) = rw (xor_same (held w)) (all_held_there ws)
 
   pub looks_open : (r : Row) (ws : List ℕ) → r.keys ≡ zip_with key ws (map held ws) → look held r ≡ opened r.holds
-  looks_open r ws keys = ap (λ b. cond b (opened r.holds) closed) (ap (all_held held) keys ∙ all_held_there ws)
+  looks_open r ws keys = grind (arith, all_held_there)
 
   pub colours_held : (ws : List ℕ) (cs : List Bool) → length cs ≡ length ws → all_held held (zip_with key ws cs) ≡ true → cs ≡ map held ws
   unfolding zip_with

@@ -1,5 +1,5 @@
 -- The simulator makes what is not told apart from what is sent, and whatever can be simulated hides inputs. Assumes nothing.
-use Rattle.std.proofs.Common.{◌≡◌, ℕ, ◌+◌, ◌<◌, Bool, true, false, cond, not, ◌&&◌, ◌↔◌, List, [], ◌∷◌, map, length, sym, refl, ap, ◌∙◌, subst, ap₂, arith}
+use Rattle.std.proofs.Common.{◌≡◌, ℕ, ◌+◌, ◌<◌, Bool, true, false, cond, ◌↔◌, List, [], ◌∷◌, map, length, sym, refl, ap, ◌∙◌, subst, ap₂, arith}
 use mathlib.Core.List.{zip_with}
 use Rattle.std.specs.List.{AllByRecursion}
 use Rattle.std.proofs.lemmas.List.FromFn.{length-map-range_with_len, get_or-map-range_with_len, fill_by_all}
@@ -21,10 +21,10 @@ use Rattle.scheme.proofs.Tables.{tables_beside}
 
 -- colours and coins
 pub colours_size : (coins vs : List Bool) → length (colours_of coins vs) ≡ length coins
-colours_size coins vs = length-map-range_with_len (λ w. colour (at coins w) (at vs w)) 0 (length coins)
+colours_size coins vs = grind (arith, length-map-range_with_len)
 
 pub colour_at : (coins vs : List Bool) (w : ℕ) → w < length coins → at (colours_of coins vs) w ≡ colour (at coins w) (at vs w)
-colour_at coins vs w below = get_or-map-range_with_len (λ w. colour (at coins w) (at vs w)) 0 (length coins) w w false below (omega arith)
+colour_at coins vs w below = grind (arith, get_or-map-range_with_len)
 
 colours_twice : (coins vs : List Bool) → colours_of (colours_of coins vs) vs ≡ coins
 colours_twice coins vs =
@@ -40,7 +40,7 @@ module _ (c : Circuit) (xs coins : List Bool) (fits : Fits yao c xs coins) where
   places k = by_colour (at coins) (gate_at c k)
 
   acts : (w : ℕ) → w < wire_count c → (active yao c xs coins w).colour ≡ at colours w
-  acts w below = let within : w < length coins = omega (arith, fits.drawn) in sym (colour_at coins (values c xs) w within)
+  acts w below = grind (arith, colour_at)
 
   abbrev set : Setting numbered places c
   set = on at by_colour numbered outputs_only c xs coins fits (by_colour_complete c (at coins)) (by_number c)
@@ -65,7 +65,7 @@ module _ (c : Circuit) (xs coins : List Bool) (fits : Fits yao c xs coins) where
 
   held_agree : (ks : List Key) → AllByRecursion (λ k. k.wire < wire_count c) ks → all_held (λ w. (active yao c xs coins w).colour) ks ≡ all_held (at colours) ks
   held_agree [] all = refl
-  held_agree (k ∷ ks) all = ap₂ ◌&&◌ (ap (λ b. not (k.colour ⊕ b)) (acts k.wire all.0)) (held_agree ks all.1)
+  held_agree (k ∷ ks) all = grind (arith, acts, held_agree ks all.1)
 
   -- a row looks the same whichever of the two it holds
   look_agrees : (k : ℕ) → k < length c.gates → (cs : List Bool) → length cs ≡ length (gate_at c k).wires →

@@ -1,5 +1,5 @@
 // The pairing of coins.
-ghost use Rattle.std.specs.Prelude.{◌≡◌, ◌<◌, ◌≤◌, length, map, All, IfOk, IfErr, zip, position};
+ghost use Rattle.std.specs.Prelude.{◌≡◌, ◌<◌, length, map, All, IfOk, IfErr, zip, position};
 ghost use Rattle.circuit.specs.Circuit.{wire_count, at};
 ghost use Rattle.circuit.specs.Meaning.{circuit_of};
 ghost use Rattle.circuit.specs.Refusals.{refuse};
@@ -20,6 +20,7 @@ pub enum Pairing {
 }
 
 // The first output in which the results differ, from 0.
+// Not one list of pairs: the values come as two, and are read at the outputs alone.
 fn first_difference(before: &[bool], after: &[bool], outputs: &[u32]) -> Option<usize>
     requires before_within { All (λ w. w < length before.now) outputs.now }
     requires after_within { All (λ w. w < length after.now) outputs.now }
