@@ -65,7 +65,7 @@ impl Encoding {
     }
 }
 
-// As many values as are told, each a byte 0 or 1.
+// As many values as are told, each a byte 0 or 1. Heap, count and text are no struct: callers have them from three places.
 pub fn read_values(heap: Global, count: usize, text: &[u8]) -> Result<Vec<bool>, Failure>
     ensures { Answers vec_items result (values_text count text.now) }
 {
@@ -86,6 +86,7 @@ pub fn read_line(heap: Global, count: usize, text: &[u8]) -> Result<Vec<bool>, F
     LINE.read(heap, count, without_end(text))
 }
 
+// Of the library's ways from a bit to a character none is plainer.
 fn digit_of(bit: bool) -> char
     ensures { result ≡ 48 + value_of bit }
 {

@@ -14,7 +14,7 @@ use crate::sheets::Sheet;
 use std::alloc::{AllocError, Global};
 use std::array;
 
-// The kind that a sheet's text begins with.
+// The kind that a sheet's text begins with. A number and no enum, as this crate knows one kind.
 pub(crate) const SHEET: u8 = 1;
 
 const MOST_INPUTS: u32 = 1024;

@@ -34,7 +34,7 @@ fn gate_value(wires: &[u32], gives: [bool; 4], known: &[bool]) -> bool
     gives[case_of(left, right)]
 }
 
-// One value more for each gate.
+// One value more for each gate. A loop and no chain, as a gate reads the values pushed before it.
 fn run_gates(known: &mut Vec<bool>, gates: &[Gate]) -> Result<(), AllocError>
     requires { GoodGates (vec_len known.old) gates.now }
     ensures { OnOk result (known.new.items ≡ extended gates.now known.old.items) }

@@ -59,7 +59,7 @@ fn put_all<T: Encode>(text: &mut Vec<u8>, items: &[T]) -> Result<(), AllocError>
     Ok(())
 }
 
-// A truth table as a number, its first entry the highest bit.
+// A truth table as a number, its first entry the highest bit. Not a fold: four bits with their weights are plainer.
 fn table_byte(a: bool, b: bool, c: bool, d: bool) -> u8
     ensures { result ≡ binary (a ∷ b ∷ c ∷ d ∷ []) }
 {

@@ -8,7 +8,7 @@ use crate::wires::Key;
 use circuit::{Failure, Refusal};
 use std::alloc::{AllocError, Global};
 
-// The kind that a file of keys begins with.
+// The kind that a file of keys begins with. A number and no enum, as this crate knows one kind.
 const KEYS: u8 = 2;
 
 const MOST_KEYS: usize = 2048;

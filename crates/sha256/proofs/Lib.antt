@@ -2,5 +2,5 @@ mod Written
 mod Bytes
 mod RowBlock
 mod Padding
-mod Windows
+mod Rounds
 pub mod Pads

@@ -1,9 +1,10 @@
 -- The blocks of a padded text: the full ones, and the last or last two. Assumes nothing.
-use Rattle.std.proofs.Common.{◌≡◌, ℕ, suc, ◌+◌, ◌-◌, ◌*◌, ◌/◌, ◌%◌, ◌^◌, ◌<◌, ◌≤◌, List, [], ◌∷◌, ◌++◌, length, take, drop, replicate, sym, refl, ap, ◌∙◌, ap₂, append_assoc, arith}
+use Rattle.std.proofs.Common.{◌≡◌, ℕ, zero, suc, ◌+◌, ◌-◌, ◌*◌, ◌/◌, ◌%◌, ◌^◌, ◌<◌, ◌≤◌, List, [], ◌∷◌, ◌++◌, length, take, drop, replicate, fold, sym, refl, ap, ◌∙◌, ap₂, append_assoc, arith}
 use Rattle.std.specs.List.{flat_map}
+use Rattle.std.specs.Simd.{first_chunks}
 use Rattle.std.specs.Int.Digits.{number_from_digits}
 use Rattle.std.proofs.lemmas.Nat.{shr-shr, field_of, div-add-mod'}
-use Rattle.std.proofs.lemmas.List.{length-append, length-replicate, length-drop, replicate-append-replicate, take-append-le, drop-append-le, take_at, drop_at, take_all}
+use Rattle.std.proofs.lemmas.List.{length-append, length-replicate, length-drop, drop-drop, replicate-append-replicate, take-append-le, drop-append-le, take_at, drop_at, take_all}
 use Rattle.circuit.specs.Numbers.{digits}
 use Rattle.circuit.proofs.Numbers.{length_digits}
 use Rattle.sha256.specs.Hash.{words, blocks, compressed, zeros, padding, start, sha256}
@@ -22,15 +23,19 @@ blocks_suc : (n : ℕ) (h b : List ℕ) → blocks (suc n) h b ≡ blocks n (com
 unfolding blocks
 blocks_suc n h b = refl
 
--- a full block
-pub value_more : (n : ℕ) (h rest after next : List ℕ) → 64 ≤ length rest → after ≡ drop 64 rest → next ≡ compressed h (words (take 64 rest)) →
-    value_from n next after ≡ value_from n h rest
-value_more n h rest after next long ea en =
-    let a = length-append rest (padding n) in
-    let b = length-append (drop 64 rest) (padding n) in
-    let d = length-drop 64 rest in
-    let count : length (rest ++ padding n) / 64 ≡ suc (length (drop 64 rest ++ padding n) / 64) = omega arith in
-    rw (ea, en, count, blocks_suc (length (drop 64 rest ++ padding n) / 64) h (rest ++ padding n), take-append-le 64 rest (padding n) long, drop-append-le 64 rest (padding n) long) refl
+-- the full blocks
+pub value_blocks : (n k : ℕ) (h text rest state : List ℕ) → k * 64 ≤ length text → rest ≡ drop (k * 64) text →
+    state ≡ fold (λ h b. compressed h (words b)) h (first_chunks 64 k text) → value_from n state rest ≡ value_from n h text
+value_blocks n zero h text rest state long er es = rw (er, es) refl
+value_blocks n (suc k) h text rest state long er es =
+    let a = length-append text (padding n) in
+    let b = length-append (drop 64 text) (padding n) in
+    let d = length-drop 64 text in
+    let count : length (text ++ padding n) / 64 ≡ suc (length (drop 64 text ++ padding n) / 64) = omega arith in
+    let on : suc k * 64 ≡ 64 + k * 64 = omega arith in
+    let next = compressed h (words (take 64 text)) in
+    value_blocks n k next (drop 64 text) rest state (omega arith) (er ∙ rw (on, drop-drop (k * 64) 64 text) refl) es
+    ∙ sym (rw (count, blocks_suc (length (drop 64 text ++ padding n) / 64) h (text ++ padding n), take-append-le 64 text (padding n) (omega arith), drop-append-le 64 text (padding n) (omega arith)) refl)
 
 -- ---- the count of bits
 

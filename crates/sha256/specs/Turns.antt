@@ -1,16 +1,14 @@
--- The schedule and the rounds sixteen at a time. Assumes nothing.
-use Rattle.std.specs.Prelude.{◌≡◌, ℕ, zero, suc, ◌+◌, ◌/◌, List, ◌++◌, map, length, slice_index}
-use Rattle.std.specs.List.{range_with_len}
-use Rattle.sha256.specs.Hash.{constants, round, next, blocks, padding}
+-- Rounds along lists of constants and words, and the hash value of what is left of a text. Assumes nothing.
+use Rattle.std.specs.Prelude.{ℕ, ◌/◌, List, ◌++◌, length, fold, zip}
+use Rattle.sha256.specs.Hash.{round, blocks, padding}
 
--- v has the sixteen words of a schedule that follow the sixteen words w
-abbrev pub Follows : List ℕ → List ℕ → Type 0
-Follows w v = v ≡ map (next (w ++ v)) (range_with_len 16 16)
+-- a round, with its constant and its word of the schedule
+abbrev pub step : List ℕ → ℕ × ℕ → List ℕ
+step s p = round s p.0 p.1
 
--- n rounds from round number t on, with the words w
-unfoldable pub turns : ℕ → ℕ → List ℕ → List ℕ → List ℕ
-turns zero t w s = s
-turns (suc n) t w s = round (turns n t w s) (slice_index constants (t + n)) (slice_index w n)
+-- a round for each of some constants, with as many words
+abbrev pub steps : List ℕ → List ℕ × List ℕ → List ℕ
+steps s p = fold step s (zip p.0 p.1)
 
 -- the hash value of a text of n bytes, from the one before what is left of the text
 abbrev pub value_from : ℕ → List ℕ → List ℕ → List ℕ

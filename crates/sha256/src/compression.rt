@@ -1,10 +1,11 @@
 // The hash value after one block, from the one before it.
-ghost use Rattle.std.specs.Prelude.{◌≡◌, ℕ, ◌+◌, ◌<◌, ◌++◌};
+ghost use Rattle.std.specs.Prelude.{◌≡◌, take};
 ghost use Rattle.sha256.specs.Words.{◌⊞◌, σ₀, σ₁};
-ghost use Rattle.sha256.specs.Hash.{next, round as round_of, sums as sums_of, compressed};
-ghost use Rattle.sha256.specs.Turns.{turns, Follows};
+ghost use Rattle.sha256.specs.Hash.{round as round_of, sums as sums_of, schedule, compressed};
+ghost use Rattle.sha256.specs.Turns.{steps};
 
-use crate::words::{big_sigma0, big_sigma1, choice, majority, small_sigma0, small_sigma1};
+use crate::words::{big_sigma, choice, majority, small_sigma};
+use std::array;
 
 const CONSTANTS: [u32; 64] = [
     0x428a_2f98,
@@ -85,16 +86,18 @@ pub(crate) const START: [u32; 8] = [
     0x5be0_cd19,
 ];
 
-fn round(s: [u32; 8], k: u32, w: u32) -> [u32; 8]
-    ensures { result ≡ round_of s k w }
+// A round, by its constant and its word of the schedule.
+fn round(s: [u32; 8], by: (&u32, &u32)) -> [u32; 8]
+    ensures { result ≡ round_of s by.entry.0.now by.entry.1.now }
 {
     let [a, b, c, d, e, f, g, h] = s;
+    let (constant, word) = by;
     let t1 = h
-        .wrapping_add(big_sigma1(e))
+        .wrapping_add(big_sigma::<6, 11, 25>(e))
         .wrapping_add(choice(e, f, g))
-        .wrapping_add(k)
-        .wrapping_add(w);
-    let t2 = big_sigma0(a).wrapping_add(majority(a, b, c));
+        .wrapping_add(*constant)
+        .wrapping_add(*word);
+    let t2 = big_sigma::<2, 13, 22>(a).wrapping_add(majority(a, b, c));
     [t1.wrapping_add(t2), a, b, c, d.wrapping_add(t1), e, f, g]
 }
 
@@ -102,84 +105,45 @@ fn round(s: [u32; 8], k: u32, w: u32) -> [u32; 8]
 fn following(a: u32, b: u32, c: u32, d: u32) -> u32
     ensures { result ≡ σ₁ a ⊞ b ⊞ σ₀ c ⊞ d }
 {
-    small_sigma1(a)
+    small_sigma::<17, 19, 10>(a)
         .wrapping_add(b)
-        .wrapping_add(small_sigma0(c))
+        .wrapping_add(small_sigma::<7, 18, 3>(c))
         .wrapping_add(d)
 }
 
-// The sixteen words of the schedule that follow these.
-fn following_all(w: [u32; 16]) -> [u32; 16]
-    ensures { Follows w result }
+// Makes a block's schedule of its sixteen words.
+fn extend(w: &mut [u32; 64])
+    ensures { w.new ≡ schedule (take 16 w.old) }
 {
-    let n0 = following(w[14], w[9], w[1], w[0]);
-    let n1 = following(w[15], w[10], w[2], w[1]);
-    let n2 = following(n0, w[11], w[3], w[2]);
-    let n3 = following(n1, w[12], w[4], w[3]);
-    let n4 = following(n2, w[13], w[5], w[4]);
-    let n5 = following(n3, w[14], w[6], w[5]);
-    let n6 = following(n4, w[15], w[7], w[6]);
-    let n7 = following(n5, n0, w[8], w[7]);
-    let n8 = following(n6, n1, w[9], w[8]);
-    let n9 = following(n7, n2, w[10], w[9]);
-    let n10 = following(n8, n3, w[11], w[10]);
-    let n11 = following(n9, n4, w[12], w[11]);
-    let n12 = following(n10, n5, w[13], w[12]);
-    let n13 = following(n11, n6, w[14], w[13]);
-    let n14 = following(n12, n7, w[15], w[14]);
-    let n15 = following(n13, n8, n0, w[15]);
-    [
-        n0, n1, n2, n3, n4, n5, n6, n7, n8, n9, n10, n11, n12, n13, n14, n15,
-    ]
+    // Not an iterator chain: a word is made of words that the loop has made.
+    for t in 16..64 {
+        w[t] = following(w[t - 2], w[t - 7], w[t - 15], w[t - 16]);
+    }
 }
 
-// Sixteen rounds, from round number `t` on.
-fn sixteen_rounds(s: [u32; 8], w: [u32; 16], t: usize) -> [u32; 8]
-    requires { t < 49 }
-    ensures { result ≡ turns 16 t w s }
+// Eight rounds, by their constants and words.
+fn eight_rounds(s: [u32; 8], by: (&[u32; 8], &[u32; 8])) -> [u32; 8]
+    ensures { result ≡ steps s (by.entry.0.now, by.entry.1.now) }
 {
-    let s0 = round(s, CONSTANTS[t], w[0]);
-    let s1 = round(s0, CONSTANTS[t + 1], w[1]);
-    let s2 = round(s1, CONSTANTS[t + 2], w[2]);
-    let s3 = round(s2, CONSTANTS[t + 3], w[3]);
-    let s4 = round(s3, CONSTANTS[t + 4], w[4]);
-    let s5 = round(s4, CONSTANTS[t + 5], w[5]);
-    let s6 = round(s5, CONSTANTS[t + 6], w[6]);
-    let s7 = round(s6, CONSTANTS[t + 7], w[7]);
-    let s8 = round(s7, CONSTANTS[t + 8], w[8]);
-    let s9 = round(s8, CONSTANTS[t + 9], w[9]);
-    let s10 = round(s9, CONSTANTS[t + 10], w[10]);
-    let s11 = round(s10, CONSTANTS[t + 11], w[11]);
-    let s12 = round(s11, CONSTANTS[t + 12], w[12]);
-    let s13 = round(s12, CONSTANTS[t + 13], w[13]);
-    let s14 = round(s13, CONSTANTS[t + 14], w[14]);
-    round(s14, CONSTANTS[t + 15], w[15])
+    let (constants, words) = by;
+    constants.iter().zip(words).fold(s, round)
 }
 
 fn sums(s: [u32; 8], t: [u32; 8]) -> [u32; 8]
     ensures { result ≡ sums_of s t }
 {
-    [
-        s[0].wrapping_add(t[0]),
-        s[1].wrapping_add(t[1]),
-        s[2].wrapping_add(t[2]),
-        s[3].wrapping_add(t[3]),
-        s[4].wrapping_add(t[4]),
-        s[5].wrapping_add(t[5]),
-        s[6].wrapping_add(t[6]),
-        s[7].wrapping_add(t[7]),
-    ]
+    array::from_fn(|i| s[i].wrapping_add(t[i]))
 }
 
 pub(crate) fn compress(state: [u32; 8], block: [u32; 16]) -> [u32; 8]
     ensures { result ≡ compressed state block }
 {
-    let a = sixteen_rounds(state, block, 0);
-    let second = following_all(block);
-    let b = sixteen_rounds(a, second, 16);
-    let third = following_all(second);
-    let c = sixteen_rounds(b, third, 32);
-    let fourth = following_all(third);
-    let d = sixteen_rounds(c, fourth, 48);
-    sums(d, state)
+    let mut words = [0; 64];
+    words[..16].copy_from_slice(&block);
+    extend(&mut words);
+    let (words, _) = words.as_chunks::<8>();
+    let (constants, _) = CONSTANTS.as_chunks::<8>();
+    // Eight at a time: a fold of single rounds takes a sixth longer.
+    let last = constants.iter().zip(words).fold(state, eight_rounds);
+    sums(last, state)
 }

@@ -1,45 +1,20 @@
 // The digest of a text.
-ghost use Rattle.std.specs.Prelude.{◌≡◌, ◌+◌, ◌-◌, ◌*◌, ◌/◌, ◌%◌, ◌^◌, ◌<◌, [], ◌∷◌, ◌++◌, length, take, replicate};
-ghost use Rattle.std.specs.List.{flat_map};
+ghost use Rattle.std.specs.Prelude.{◌≡◌, ◌+◌, ◌-◌, ◌*◌, ◌/◌, ◌%◌, ◌^◌, ◌<◌, ◌≤◌, [], ◌∷◌, ◌++◌, length, map, take, replicate};
+ghost use Rattle.std.specs.List.{flat_map, range_with_len};
 ghost use Rattle.circuit.specs.Numbers.{digits};
-ghost use Rattle.sha256.specs.Hash.{word, words, sha256};
+ghost use Rattle.sha256.specs.Hash.{word, words, compressed, sha256};
 ghost use Rattle.sha256.specs.Turns.{value_from};
 
 use crate::compression::{START, compress};
+use std::array;
 
-fn word_at(block: &[u8; 64], j: usize) -> u32
-    requires { j < 16 }
-    ensures { result ≡ word block.now j }
+// The words of some bytes, four bytes each.
+pub(crate) fn words_of<const N: usize>(bytes: &[u8]) -> [u32; N]
+    requires { length bytes.now ≡ 4 * N }
+    ensures { result ≡ map (word bytes.now) (range_with_len 0 N) }
 {
-    u32::from_be_bytes([
-        block[4 * j],
-        block[4 * j + 1],
-        block[4 * j + 2],
-        block[4 * j + 3],
-    ])
-}
-
-fn words_of(block: &[u8; 64]) -> [u32; 16]
-    ensures { result ≡ words block.now }
-{
-    [
-        word_at(block, 0),
-        word_at(block, 1),
-        word_at(block, 2),
-        word_at(block, 3),
-        word_at(block, 4),
-        word_at(block, 5),
-        word_at(block, 6),
-        word_at(block, 7),
-        word_at(block, 8),
-        word_at(block, 9),
-        word_at(block, 10),
-        word_at(block, 11),
-        word_at(block, 12),
-        word_at(block, 13),
-        word_at(block, 14),
-        word_at(block, 15),
-    ]
+    let (chunks, _) = bytes.as_chunks::<4>();
+    array::from_fn(|i| u32::from_be_bytes(chunks[i]))
 }
 
 // What is left of a text after its full blocks, with the bit behind it.
@@ -48,9 +23,7 @@ fn marked(rest: &[u8]) -> [u8; 64]
     ensures { result ≡ rest.now ++ (128 ∷ replicate (63 - length rest.now) 0) }
 {
     let mut block = [0; 64];
-    for i in 0..rest.len() {
-        block[i] = rest[i];
-    }
+    block[..rest.len()].copy_from_slice(rest);
     block[rest.len()] = 128;
     block
 }
@@ -81,50 +54,28 @@ fn ended(state: [u32; 8], rest: &[u8], size: usize) -> [u32; 8]
     }
 }
 
+// The hash value after one more block.
+fn absorbed(state: [u32; 8], block: &[u8; 64]) -> [u32; 8]
+    ensures { result ≡ compressed state (words block.now) }
+{
+    compress(state, words_of(block))
+}
+
 // The hash value of a text, block by block.
 fn hash_value(text: &[u8]) -> [u32; 8]
     ensures { sha256 text.now ≡ flat_map (digits 256 4) result }
 {
-    let mut state = START;
-    let mut rest = text;
-    while let Some((block, after)) = rest.split_first_chunk::<64>() {
-        let next = compress(state, words_of(block));
-        state = next;
-        rest = after;
-    }
+    let (blocks, rest) = text.as_chunks::<64>();
+    let state = blocks.iter().fold(START, absorbed);
     ended(state, rest, text.len())
 }
 
-fn four_words(a: u32, b: u32, c: u32, d: u32) -> [u8; 16]
-    ensures { result ≡ flat_map (digits 256 4) (a ∷ b ∷ c ∷ d ∷ []) }
+// The first bytes of a hash value.
+pub(crate) fn bytes_of<const N: usize>(h: [u32; 8]) -> [u8; N]
+    requires { N ≤ 32 }
+    ensures { result ≡ take N (flat_map (digits 256 4) h) }
 {
-    let a = a.to_be_bytes();
-    let b = b.to_be_bytes();
-    let c = c.to_be_bytes();
-    let d = d.to_be_bytes();
-    [
-        a[0], a[1], a[2], a[3], b[0], b[1], b[2], b[3], c[0], c[1], c[2], c[3], d[0], d[1], d[2],
-        d[3],
-    ]
-}
-
-// The first sixteen bytes of a hash value.
-pub(crate) fn first_half(h: [u32; 8]) -> [u8; 16]
-    ensures { result ≡ take 16 (flat_map (digits 256 4) h) }
-{
-    four_words(h[0], h[1], h[2], h[3])
-}
-
-fn bytes_of(h: [u32; 8]) -> [u8; 32]
-    ensures { result ≡ flat_map (digits 256 4) h }
-{
-    let a = four_words(h[0], h[1], h[2], h[3]);
-    let b = four_words(h[4], h[5], h[6], h[7]);
-    [
-        a[0], a[1], a[2], a[3], a[4], a[5], a[6], a[7], a[8], a[9], a[10], a[11], a[12], a[13],
-        a[14], a[15], b[0], b[1], b[2], b[3], b[4], b[5], b[6], b[7], b[8], b[9], b[10], b[11],
-        b[12], b[13], b[14], b[15],
-    ]
+    array::from_fn(|i| h[i / 4].to_be_bytes()[i % 4])
 }
 
 // The digest of a text.

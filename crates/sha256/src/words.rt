@@ -1,6 +1,7 @@
 // The functions on words.
-ghost use Rattle.std.specs.Prelude.{◌≡◌};
-ghost use Rattle.sha256.specs.Words.{choice as choice_of, majority as majority_of, Σ₀, Σ₁, σ₀, σ₁};
+ghost use Rattle.std.specs.Prelude.{◌≡◌, ◌<◌, bit_xor};
+ghost use Rattle.std.specs.Int.{rotate_right, w32};
+ghost use Rattle.sha256.specs.Words.{choice as choice_of, majority as majority_of, shr};
 
 pub(crate) fn choice(x: u32, y: u32, z: u32) -> u32
     ensures { result ≡ choice_of x y z }
@@ -14,26 +15,17 @@ pub(crate) fn majority(x: u32, y: u32, z: u32) -> u32
     (x & y) ^ (x & z) ^ (y & z)
 }
 
-pub(crate) fn big_sigma0(x: u32) -> u32
-    ensures { result ≡ Σ₀ x }
+// Σ₀ and Σ₁, by their rotations.
+pub(crate) fn big_sigma<const I: u32, const J: u32, const K: u32>(x: u32) -> u32
+    ensures { result ≡ bit_xor (bit_xor (rotate_right w32 x I) (rotate_right w32 x J)) (rotate_right w32 x K) }
 {
-    x.rotate_right(2) ^ x.rotate_right(13) ^ x.rotate_right(22)
+    x.rotate_right(I) ^ x.rotate_right(J) ^ x.rotate_right(K)
 }
 
-pub(crate) fn big_sigma1(x: u32) -> u32
-    ensures { result ≡ Σ₁ x }
+// σ₀ and σ₁, by their rotations and their shift.
+pub(crate) fn small_sigma<const I: u32, const J: u32, const SHIFT: u32>(x: u32) -> u32
+    requires { SHIFT < 32 }
+    ensures { result ≡ bit_xor (bit_xor (rotate_right w32 x I) (rotate_right w32 x J)) (shr SHIFT x) }
 {
-    x.rotate_right(6) ^ x.rotate_right(11) ^ x.rotate_right(25)
-}
-
-pub(crate) fn small_sigma0(x: u32) -> u32
-    ensures { result ≡ σ₀ x }
-{
-    x.rotate_right(7) ^ x.rotate_right(18) ^ (x >> 3)
-}
-
-pub(crate) fn small_sigma1(x: u32) -> u32
-    ensures { result ≡ σ₁ x }
-{
-    x.rotate_right(17) ^ x.rotate_right(19) ^ (x >> 10)
+    x.rotate_right(I) ^ x.rotate_right(J) ^ (x >> SHIFT)
 }

@@ -1,4 +1,6 @@
+use Rattle.sha256.specs.Words.{σ₀, σ₁}
 use Rattle.sha256.proofs.compression.following.Goals as goal
 
 pub returns : goal.returns
-returns c = let e = c.small_sigma1.ensures in let f = c.small_sigma0.ensures in cc
+unfolding σ₀ σ₁
+returns c = cc

@@ -1,16 +1,14 @@
-use Rattle.std.proofs.Common.{length, ap, ◌∙◌, arith}
-use Rattle.sha256.specs.Hash.{compressed, words}
-use Rattle.sha256.proofs.Padding.{value_more, hashed}
+use Rattle.std.proofs.Common.{rules, length, ◌/◌, ◌∙◌, arith}
+use Rattle.std.specs.Simd.{first_chunks}
+use Rattle.std.proofs.lemmas.Iterator.{YieldsList-from_slice}
+use Rattle.std.proofs.lemmas.Iterator.Consumers.{fold_from_yields_List}
+use Rattle.sha256.specs.Hash.{compressed, words, start}
+use Rattle.sha256.proofs.Padding.{value_blocks, hashed}
 use Rattle.sha256.proofs.texts.hash_value.Goals as goal
 
-pub loop-block-preserved : goal.loop-block-preserved
-loop-block-preserved c =
-    let found = c.in-Some.ensures.cases in (
-      value_more (length c.args.text.now) c.loop-block.state c.loop-block.rest.now c.in-Some.after.now c.compress-next.result
-          (omega arith) found.1 (c.compress-next.ensures ∙ ap (λ b. compressed c.loop-block.state b) (c.words_of.ensures ∙ ap words found.0))
-          ∙ c.loop-block.invariant.0,
-      omega arith,
-    )
-
 pub returns : goal.returns
-returns c = hashed c.args.text.now c.ended.result (c.ended.ensures ∙ c.loop-block.invariant.0)
+returns c =
+    let text = c.args.text.now in
+    let ran = fold_from_yields_List _ (λ h b. compressed h (words b)) start _ c.fold-state.ensures.ran
+    (YieldsList-from_slice (first_chunks 64 (length text / 64) text) (search rules)) (λ a x b q k. search rules) in
+    hashed text c.ended.result (c.ended.ensures ∙ value_blocks (length text) (length text / 64) start text _ _ (omega arith) c.as_chunks.ensures.back ran)
