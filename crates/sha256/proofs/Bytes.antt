@@ -54,9 +54,9 @@ bytes_are n h r most is =
     get_or-map-range_with_len _ 0 n i i 0 low (omega arith) ∙ byte_is h i (omega arith) ∙ sym (get_or-take n all i 0 low))
     ∙ ap (take n) (sym (joined_four h))
 
-pub all_bytes_are : (h r s : List ℕ) → length h ≡ 8 → r ≡ take 32 (flat_map (digits 256 4) h) → s ≡ flat_map (digits 256 4) h → r ≡ s
-all_bytes_are h r s eight er es =
-    er ∙ ap (take 32) (joined_four h) ∙ take_all 32 (flat_map four h) (omega (arith, length_four h)) ∙ sym (joined_four h) ∙ sym es
+pub all_bytes_are : (h r : List ℕ) → length h ≡ 8 → r ≡ take 32 (flat_map (digits 256 4) h) → r ≡ flat_map (digits 256 4) h
+all_bytes_are h r eight is =
+    is ∙ ap (take 32) (joined_four h) ∙ take_all 32 (flat_map four h) (omega (arith, length_four h)) ∙ sym (joined_four h)
 
 -- some words from their bytes
 chunk_is : (n : ℕ) (b : List ℕ) (j : ℕ) → j < n → get_or (first_chunks 4 n b) j [] ≡ take 4 (drop (4 * j) b)

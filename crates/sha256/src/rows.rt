@@ -8,7 +8,7 @@ ghost use Rattle.sha256.specs.Pads.{row_text, pad};
 use crate::compression::{START, compress};
 use crate::texts::{bytes_of, words_of};
 
-// The one block that a row's text of 37 bytes fills once it is padded.
+// The one block that a row's text of 37 bytes fills once it is padded. Keys, gate and place are no struct: it would be made for one call.
 fn row_block(left: [u8; 16], right: [u8; 16], gate: u32, place: u8) -> [u32; 16]
     ensures { sha256 (row_text (left ∷ right ∷ []) gate place) ≡ flat_map (digits 256 4) (compressed start result) }
 {

@@ -73,7 +73,8 @@ fn hash_value(text: &[u8]) -> [u32; 8]
 // The first bytes of a hash value.
 pub(crate) fn bytes_of<const N: usize>(h: [u32; 8]) -> [u8; N]
     requires { N ≤ 32 }
-    ensures { result ≡ take N (flat_map (digits 256 4) h) }
+    ensures first { result ≡ take N (flat_map (digits 256 4) h) }
+    ensures all { N ≡ 32 → result ≡ flat_map (digits 256 4) h }
 {
     array::from_fn(|i| h[i / 4].to_be_bytes()[i % 4])
 }
