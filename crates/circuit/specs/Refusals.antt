@@ -1,5 +1,6 @@
 -- The number of each refusal, and how a call's answer stands to what is meant. Assumes nothing.
-use Rattle.std.specs.Prelude.{◌≡◌, ℕ, Bool, true, cond, is_ok, Ok, Err, Result}
+use Rattle.std.specs.Prelude.{◌≡◌, ℕ, Bool, true, cond, List, ◌++◌, codes, is_ok, Ok, Err, Result}
+use Rattle.std.specs.Fmt.{decimal}
 use Rattle.circuit.specs.declared.refusals.Failure.{Failure}
 use Rattle.circuit.specs.declared.refusals.Failure.TheVariants.{Refused, Memory}
 use Rattle.circuit.specs.declared.refusals.Refusal.{Refusal}
@@ -11,6 +12,10 @@ number_of Count = 2
 number_of NotMade = 3
 number_of Table = 4
 number_of Values = 7
+
+-- what a refusal is told by: `refused: ` and its number
+abbrev pub refusal_text : Refusal → List ℕ
+refusal_text e = codes "refused: " ++ decimal (number_of e)
 
 -- what is meant: an answer, or the number of a refusal
 abbrev pub Answer : Type 0 → Type 0

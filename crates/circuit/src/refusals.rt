@@ -1,6 +1,6 @@
 // Why a call gives no answer.
-ghost use Rattle.std.specs.Prelude.{◌≡◌};
-ghost use Rattle.circuit.specs.Refusals.{number_of};
+ghost use Rattle.std.specs.Prelude.{◌≡◌, Some};
+ghost use Rattle.circuit.specs.Refusals.{number_of, refusal_text};
 ghost use Rattle.circuit.specs.declared.refusals.Failure.TheVariants.{Memory, Refused};
 
 use std::alloc::AllocError;
@@ -37,6 +37,8 @@ impl From<Refusal> for u8 {
 }
 
 impl fmt::Display for Refusal {
+    ghost output = { λ e. Some (refusal_text e) };
+
     fn fmt<W: fmt::Write>(&self, f: &mut fmt::Formatter<W>) -> fmt::Result {
         write!(f, "refused: {}", u8::from(*self))
     }
