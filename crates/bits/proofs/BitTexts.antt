@@ -5,7 +5,7 @@ use Rattle.std.specs.List.{list_all}
 use Rattle.std.proofs.lemmas.Bool.{eq-eqb, ne_eqb}
 use Rattle.std.proofs.lemmas.List.{get_or_push, length-map, length_push, take_at}
 use Rattle.std.proofs.lemmas.Str.Ascii.{encodes-IsAscii}
-use Rattle.bits.specs.Texts.{bit_of, all_bits, bits_of, bits_text, values_text, line_without_end, line_of, LineBack}
+use Rattle.bits.specs.Texts.{bit_of, all_bits, bits_of, bits_text, values_text, line_without_end, line_of, line_text, LineBack}
 use Rattle.circuit.specs.Numbers.{bit}
 use Rattle.circuit.specs.declared.refusals.Refusal.{Refusal}
 use Rattle.circuit.specs.declared.refusals.Refusal.TheVariants.{Malformed, Values}
@@ -63,3 +63,9 @@ pub line_is_back : (bs : List Bool) → LineBack bs
 line_is_back bs =
     let whole : bits_text 48 (length bs) Malformed (line_of bs) ≡ Ok bs = written_back 48 (λ b. 48 + bit b) digit_read (length bs) Malformed bs refl in
     record { back = rw (no_end bs) whole; back_with_end = rw (without_end (line_of bs)) whole }
+
+pub back : (bs : List Bool) → line_text (length bs) (line_of bs) ≡ Ok bs
+back bs = (line_is_back bs).back
+
+pub back_with_end : (bs : List Bool) → line_text (length bs) (line_of bs ++ (10 ∷ [])) ≡ Ok bs
+back_with_end bs = (line_is_back bs).back_with_end

@@ -93,17 +93,11 @@ fn digit_of(bit: bool) -> char
     if bit { '1' } else { '0' }
 }
 
-// A law of all bits, and no code: their line is read as they are.
-fn line_back(bits: &[bool])
-    ensures { LineBack bits.now }
-{}
-
 // The line of some bits, without its end.
-#[tactic(auto, using(crate::proofs::BitTexts::digits_encoded))]
+#[tactic(auto, using(crate::proofs::BitTexts::digits_encoded, crate::proofs::BitTexts::back, crate::proofs::BitTexts::back_with_end))]
 pub fn line_of(heap: Global, bits: &[bool]) -> Result<String, AllocError>
     ensures digits { IfOk result (λ s. string_bytes s ≡ line_of bits.now) }
     ensures read_back { LineBack bits.now }
 {
-    line_back(bits);
     bits.iter().map(|b| digit_of(*b)).collect(heap)
 }

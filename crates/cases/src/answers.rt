@@ -1,5 +1,5 @@
 // What is looked for in a call's answer.
-use circuit::Failure;
+use circuit::{Failure, Refusal};
 use std::fmt::Debug;
 use std::process::Abort;
 use std::test::Fail;
@@ -14,20 +14,6 @@ pub fn gives<T: PartialEq + Drop, E: Debug + Drop>(
     Ok(())
 }
 
-// The number that a call is refused with, or none where it answers.
-pub fn refusal<T: Drop>(answer: Result<T, Failure>) -> Result<Option<u8>, Fail> {
-    match answer {
-        Ok(_) => Ok(None),
-        Err(Failure::Refused(refusal)) => Ok(Some(u8::from(refusal))),
-        Err(Failure::Memory) => Err(Fail::new("out of memory")),
-    }
-}
-
-pub fn refused<T: Drop>(
-    rt: &impl Abort,
-    answer: Result<T, Failure>,
-    expected: u8,
-) -> Result<(), Fail> {
-    assert_eq!(rt; refusal(answer)?, Some(expected));
-    Ok(())
+pub fn refused<T: Drop>(rt: &impl Abort, answer: Result<T, Failure>, expected: Refusal) {
+    assert_eq!(rt; answer.err(), Some(Failure::Refused(expected)));
 }

@@ -1,6 +1,6 @@
 // Coins and their pairing, values and lines.
 use crate::answers::{gives, refused};
-use circuit::{Failure, Sheet};
+use circuit::{Failure, Refusal, Sheet};
 use scheme::Pairing;
 use std::alloc::Global;
 use std::process::Abort;
@@ -99,11 +99,17 @@ fn what_does_not_fit(rt: HostRuntime) -> Result<(), Fail> {
     let and = Sheet::read(heap, AND)?;
     let two = [true, false];
     let three = [true, false, true];
-    refused(&rt, scheme::pair(heap, &and, &three, &two, &three), 7)?;
-    refused(&rt, scheme::pair(heap, &and, &two, &three, &three), 7)?;
-    refused(&rt, scheme::pair(heap, &and, &two, &two, &two), 1)?;
-    // values before coins
-    refused(&rt, scheme::pair(heap, &and, &two, &three, &two), 7)
+    let cases: [(&[bool], &[bool], &[bool], Refusal); 4] = [
+        (&three, &two, &three, Refusal::Values),
+        (&two, &three, &three, Refusal::Values),
+        (&two, &two, &two, Refusal::Malformed),
+        // values before coins
+        (&two, &three, &two, Refusal::Values),
+    ];
+    for (first, second, coins, refusal) in cases {
+        refused(&rt, scheme::pair(heap, &and, first, second, coins), refusal);
+    }
+    Ok(())
 }
 
 #[test]
@@ -115,10 +121,16 @@ fn values(rt: HostRuntime) -> Result<(), Fail> {
         &[true, false, true],
     )?;
     gives(&rt, bits::read_values(heap, 0, b""), &[])?;
-    refused(&rt, bits::read_values(heap, 2, b"\x01\0\x01"), 7)?;
-    refused(&rt, bits::read_values(heap, 3, b"\x01\0"), 7)?;
-    refused(&rt, bits::read_values(heap, 2, b"\x01\x02"), 7)?;
-    refused(&rt, bits::read_values(heap, 1, b"1"), 7)
+    let others: [(usize, &[u8]); 4] = [
+        (2, b"\x01\0\x01"),
+        (3, b"\x01\0"),
+        (2, b"\x01\x02"),
+        (1, b"1"),
+    ];
+    for (count, text) in others {
+        refused(&rt, bits::read_values(heap, count, text), Refusal::Values);
+    }
+    Ok(())
 }
 
 #[test]
@@ -133,7 +145,7 @@ fn lines(rt: HostRuntime) -> Result<(), Fail> {
     gives(&rt, bits::read_line(heap, 0, b"\n"), &[])?;
     let others: [&[u8]; 5] = [b"10", b"101\n\n", b"10 ", b"102", b"\x01\0\x01"];
     for text in others {
-        refused(&rt, bits::read_line(heap, 3, text), 1)?;
+        refused(&rt, bits::read_line(heap, 3, text), Refusal::Malformed);
     }
     assert!(rt; bits::line_of(heap, &[true, false, true])?.as_str() == "101");
     Ok(())

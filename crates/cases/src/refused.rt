@@ -1,6 +1,6 @@
 // Damaged and cut sheets, and the number that each is refused with.
-use crate::answers::{refusal, refused};
-use circuit::{Refusal, Sheet};
+use crate::answers::refused;
+use circuit::{Failure, Refusal, Sheet};
 use std::alloc::Global;
 use std::process::Abort;
 use std::test::Fail;
@@ -77,6 +77,15 @@ fn case_of(rt: &impl Abort, heap: Global, line: &str) -> Result<Option<Case>, Fa
     }))
 }
 
+// The number that a text is refused with, or none where it is read.
+fn number(heap: Global, text: &[u8]) -> Result<Option<u8>, Fail> {
+    match Sheet::read(heap, text) {
+        Ok(_) => Ok(None),
+        Err(Failure::Refused(refusal)) => Ok(Some(u8::from(refusal))),
+        Err(Failure::Memory) => Err(Fail::new("out of memory")),
+    }
+}
+
 #[test]
 fn each_text_has_its_number(rt: HostRuntime) -> Result<(), Fail> {
     let heap = rt.alloc();
@@ -85,8 +94,7 @@ fn each_text_has_its_number(rt: HostRuntime) -> Result<(), Fail> {
         let Some(case) = case_of(&rt, heap, line)? else {
             continue;
         };
-        let read = Sheet::read(heap, case.text.as_slice());
-        assert_eq!(rt; refusal(read)?, case.refusal, "{}", line);
+        assert_eq!(rt; number(heap, &case.text)?, case.refusal, "{}", line);
         cases = cases.saturating_add(1);
     }
     assert_eq!(rt; cases, 34);
@@ -97,16 +105,26 @@ fn each_text_has_its_number(rt: HostRuntime) -> Result<(), Fail> {
 fn every_cut_is_refused(rt: HostRuntime) -> Result<(), Fail> {
     let heap = rt.alloc();
     let text = b"\x01\0\x02\0\x01\0\0\0\x01\0\0\0\0\0\0\0\x01\x01\0\x01\0\0\0\x02";
-    assert_eq!(rt; refusal(Sheet::read(heap, text))?, None);
+    assert_eq!(rt; number(heap, text)?, None);
     for n in 0..text.len() {
-        refused(&rt, Sheet::read(heap, &text[..n]), 1)?;
+        refused(&rt, Sheet::read(heap, &text[..n]), Refusal::Malformed);
     }
     Ok(())
 }
 
 #[test]
 fn its_text_has_the_number(rt: HostRuntime) -> Result<(), Fail> {
-    let text = format!(in rt.alloc(); "{}", Refusal::NotMade)?;
-    assert!(rt; text.as_str() == "refused: 3");
+    let told = [
+        (Refusal::Malformed, 1, "refused: 1"),
+        (Refusal::Count, 2, "refused: 2"),
+        (Refusal::NotMade, 3, "refused: 3"),
+        (Refusal::Table, 4, "refused: 4"),
+        (Refusal::Values, 7, "refused: 7"),
+    ];
+    for (refusal, number, expected) in told {
+        assert_eq!(rt; u8::from(refusal), number);
+        let text = format!(in rt.alloc(); "{refusal}")?;
+        assert!(rt; text.as_str() == expected);
+    }
     Ok(())
 }

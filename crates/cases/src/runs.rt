@@ -1,6 +1,6 @@
 // Sheets that are run, and written as they were read.
 use crate::answers::{gives, refused};
-use circuit::Sheet;
+use circuit::{Refusal, Sheet};
 use std::alloc::{AllocError, Global};
 use std::test::Fail;
 
@@ -14,26 +14,15 @@ const MIXED: &[u8; 71] = b"\x01\0\x02\0\x01\0\0\0\x04\
 fn shared_and_repeated_wires(rt: HostRuntime) -> Result<(), Fail> {
     let heap = rt.alloc();
     let sheet = Sheet::read(heap, MIXED)?;
-    gives(
-        &rt,
-        sheet.run(heap, &[false, false]),
-        &[false, true, false, false, false, false],
-    )?;
-    gives(
-        &rt,
-        sheet.run(heap, &[false, true]),
-        &[false, true, false, false, true, false],
-    )?;
-    gives(
-        &rt,
-        sheet.run(heap, &[true, false]),
-        &[false, true, false, true, false, false],
-    )?;
-    gives(
-        &rt,
-        sheet.run(heap, &[true, true]),
-        &[true, false, false, false, true, true],
-    )?;
+    let cases = [
+        ([false, false], [false, true, false, false, false, false]),
+        ([false, true], [false, true, false, false, true, false]),
+        ([true, false], [false, true, false, true, false, false]),
+        ([true, true], [true, false, false, false, true, true]),
+    ];
+    for (inputs, outputs) in cases {
+        gives(&rt, sheet.run(heap, &inputs), &outputs)?;
+    }
     gives(
         &rt,
         sheet.values(heap, &[true, false]),
@@ -49,8 +38,8 @@ fn other_than_as_many_values(rt: HostRuntime) -> Result<(), Fail> {
     let sheet = Sheet::read(heap, MIXED)?;
     let inputs: [&[bool]; 3] = [&[], &[true], &[true, true, true]];
     for values in inputs {
-        refused(&rt, sheet.run(heap, values), 7)?;
-        refused(&rt, sheet.values(heap, values), 7)?;
+        refused(&rt, sheet.run(heap, values), Refusal::Values);
+        refused(&rt, sheet.values(heap, values), Refusal::Values);
     }
     Ok(())
 }
@@ -74,7 +63,7 @@ fn chain(heap: Global) -> Result<Vec<u8>, AllocError> {
 fn as_many_gates_as_may_be(rt: HostRuntime) -> Result<(), Fail> {
     let heap = rt.alloc();
     let text = chain(heap)?;
-    let sheet = Sheet::read(heap, text.as_slice())?;
+    let sheet = Sheet::read(heap, &text)?;
     gives(&rt, sheet.run(heap, &[true]), &[true; 1024])?;
-    gives(&rt, sheet.write(heap), text.as_slice())
+    gives(&rt, sheet.write(heap), &text)
 }

@@ -1,6 +1,6 @@
 // A sheet from its bytes: each part is read to its end or its first fault.
 ghost use Rattle.std.specs.Prelude.{◌≡◌, ◌-◌, ◌≤◌};
-ghost use Rattle.circuit.specs.Format.{kind, count, wire, gate, head, many, parse};
+ghost use Rattle.circuit.specs.Format.{kind, field, count, wire, gate, head, many, parse};
 ghost use Rattle.circuit.specs.Kept.{lent, lent_rest, ReadsAs, Kept, OneMore};
 ghost use Rattle.circuit.specs.Meaning.{circuit_of};
 ghost use Rattle.circuit.specs.Numbers.{bits};
@@ -40,14 +40,23 @@ fn kind_in(text: &[u8]) -> Result<&[u8], Refusal>
     Ok(rest)
 }
 
+// A number of N bytes. It and what is left stand in a pair, as they do in the definitions, and so for each part.
+fn field<const N: usize>(text: &[u8]) -> Result<(u32, &[u8]), Refusal>
+    requires { N ≤ 4 }
+    ensures { lent result ≡ field N text.now }
+{
+    let Some(part) = number::<N>(text) else {
+        return Err(Refusal::Malformed);
+    };
+    Ok(part)
+}
+
 // A count of N bytes, at most `most`.
 fn count_in<const N: usize>(most: u32, text: &[u8]) -> Result<(u32, &[u8]), Refusal>
     requires { N ≤ 4 }
     ensures { lent result ≡ count N most text.now }
 {
-    let Some((n, rest)) = number::<N>(text) else {
-        return Err(Refusal::Malformed);
-    };
+    let (n, rest) = field::<N>(text)?;
     if n > most {
         return Err(Refusal::Count);
     }
@@ -58,9 +67,7 @@ fn count_in<const N: usize>(most: u32, text: &[u8]) -> Result<(u32, &[u8]), Refu
 fn wire_in(made: u32, text: &[u8]) -> Result<(u32, &[u8]), Refusal>
     ensures { lent result ≡ wire made text.now }
 {
-    let Some((n, rest)) = number::<4>(text) else {
-        return Err(Refusal::Malformed);
-    };
+    let (n, rest) = field::<4>(text)?;
     if n >= made {
         return Err(Refusal::NotMade);
     }
@@ -78,15 +85,9 @@ fn table_of(gives: u32) -> [bool; 4]
 fn gate_in(made: u32, text: &[u8]) -> Result<(Gate, &[u8]), Refusal>
     ensures { lent result ≡ gate made text.now }
 {
-    let Some((left, rest)) = number::<4>(text) else {
-        return Err(Refusal::Malformed);
-    };
-    let Some((right, rest)) = number::<4>(rest) else {
-        return Err(Refusal::Malformed);
-    };
-    let Some((gives, rest)) = number::<1>(rest) else {
-        return Err(Refusal::Malformed);
-    };
+    let (left, rest) = field::<4>(text)?;
+    let (right, rest) = field::<4>(rest)?;
+    let (gives, rest) = field::<1>(rest)?;
     if left >= made || right >= made {
         return Err(Refusal::NotMade);
     }
@@ -159,6 +160,7 @@ fn sheet_in(heap: Global, text: &[u8]) -> Result<Sheet, Failure>
     if !rest.is_empty() {
         return Err(Failure::Refused(Refusal::Malformed));
     }
+    // counts of two bytes, at most 1,024
     Ok(Sheet {
         inputs: head.inputs as u16,
         opener: head.opener as u16,

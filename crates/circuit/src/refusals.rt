@@ -10,15 +10,15 @@ use std::fmt;
 #[derive(Clone, Copy, PartialEq, Eq, Debug)]
 pub enum Refusal {
     // a text that is none of its kind: an unknown kind, a cut, bytes left over, a character that means nothing
-    Malformed,
+    Malformed = 1,
     // a count out of its range
-    Count,
+    Count = 2,
     // a wire that is not made yet
-    NotMade,
+    NotMade = 3,
     // a gate's truth table of more than four bits
-    Table,
+    Table = 4,
     // other than a value for each input
-    Values,
+    Values = 7,
 }
 
 // The number that a refusal is told by.
@@ -26,13 +26,7 @@ impl From<Refusal> for u8 {
     ghost from_gives = { λ e n. n ≡ number_of e };
 
     fn from(e: Refusal) -> u8 {
-        match e {
-            Refusal::Malformed => 1,
-            Refusal::Count => 2,
-            Refusal::NotMade => 3,
-            Refusal::Table => 4,
-            Refusal::Values => 7,
-        }
+        e as u8
     }
 }
 
@@ -51,6 +45,7 @@ pub enum Failure {
     Memory,
 }
 
+// These two are written out, as what is derived says nothing of the case that it makes.
 impl From<Refusal> for Failure {
     ghost from_gives = { λ e r. r ≡ Refused e };
 

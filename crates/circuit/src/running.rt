@@ -10,7 +10,7 @@ use crate::refusals::{Failure, Refusal};
 use crate::sheets::Sheet;
 use std::alloc::{AllocError, Global};
 
-// The entry of a truth table for two bits.
+// The entry of a truth table for two bits, by a match on both: a rule of the project.
 fn case_of(left: bool, right: bool) -> usize
     ensures { result ≡ binary (left ∷ right ∷ []) }
 {
@@ -22,7 +22,7 @@ fn case_of(left: bool, right: bool) -> usize
     }
 }
 
-// What a gate gives where the wires made so far have these values.
+// What a gate gives where the wires made so far have these values. Its wires are lent as a slice: a rule of the project.
 fn gate_value(wires: &[u32], gives: [bool; 4], known: &[bool]) -> bool
     requires two { length wires.now ≡ 2 }
     requires left { slice_index wires.now 0 < length known.now }
@@ -67,14 +67,14 @@ impl Sheet {
     pub fn wire_count(&self) -> usize
         ensures { result ≡ wire_count (circuit_of self.now) }
     {
-        self.inputs as usize + self.gates.len()
+        usize::from(self.inputs) + self.gates.len()
     }
 
     // The values of all wires, for as many values as inputs.
     pub fn values(&self, heap: Global, inputs: &[bool]) -> Result<Vec<bool>, Failure>
         ensures { Evaluates self.now inputs.now result }
     {
-        if inputs.len() != self.inputs as usize {
+        if inputs.len() != usize::from(self.inputs) {
             return Err(Failure::Refused(Refusal::Values));
         }
         all_values(heap, self, inputs)

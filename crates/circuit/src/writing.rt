@@ -19,7 +19,7 @@ trait Encode {
         ensures { OnOk result (text.new.items ≡ text.old.items ++ bytes self.now) };
 }
 
-// Numbers stand high byte first.
+// Numbers stand high byte first. Each size has its impl, as `to_be_bytes` is a method of each type and of no trait.
 impl Encode for u16 {
     ghost bytes = { digits 256 2 };
 
@@ -43,8 +43,7 @@ impl Encode for Gate {
 
     fn put(&self, text: &mut Vec<u8>) -> Result<(), AllocError> {
         put_all(text, &self.wires)?;
-        let [a, b, c, d] = self.gives;
-        text.push(table_byte(a, b, c, d))?;
+        text.push(table_byte(self.gives))?;
         Ok(())
     }
 }
@@ -60,22 +59,25 @@ fn put_all<T: Encode>(text: &mut Vec<u8>, items: &[T]) -> Result<(), AllocError>
 }
 
 // A truth table as a number, its first entry the highest bit. Not a fold: four bits with their weights are plainer.
-fn table_byte(a: bool, b: bool, c: bool, d: bool) -> u8
-    ensures { result ≡ binary (a ∷ b ∷ c ∷ d ∷ []) }
+fn table_byte(gives: [bool; 4]) -> u8
+    ensures { result ≡ binary gives }
 {
+    let [a, b, c, d] = gives;
     8 * u8::from(a) + 4 * u8::from(b) + 2 * u8::from(c) + u8::from(d)
 }
 
-// All that follows the kind.
-fn put_body(text: &mut Vec<u8>, sheet: &Sheet) -> Result<(), AllocError>
-    ensures { OnOk result (text.new.items ≡ text.old.items ++ body (circuit_of sheet.now)) }
-{
-    sheet.inputs.put(text)?;
-    sheet.opener.put(text)?;
-    (sheet.gates.len() as u32).put(text)?;
-    put_all(text, &sheet.gates)?;
-    (sheet.outputs.len() as u16).put(text)?;
-    put_all(text, &sheet.outputs)
+// All that follows a sheet's kind.
+impl Encode for Sheet {
+    ghost bytes = { λ s. body (circuit_of s) };
+
+    fn put(&self, text: &mut Vec<u8>) -> Result<(), AllocError> {
+        self.inputs.put(text)?;
+        self.opener.put(text)?;
+        (self.gates.len() as u32).put(text)?;
+        put_all(text, &self.gates)?;
+        (self.outputs.len() as u16).put(text)?;
+        put_all(text, &self.outputs)
+    }
 }
 
 impl Sheet {
@@ -86,7 +88,7 @@ impl Sheet {
     {
         let mut text = Vec::new(heap);
         text.push(SHEET)?;
-        put_body(&mut text, self)?;
+        self.put(&mut text)?;
         Ok(text)
     }
 }

@@ -56,7 +56,7 @@ pub(crate) fn keys_in(text: &[u8]) -> Result<&[Key], Refusal>
     Ok(keys)
 }
 
-// As many keys as are told, from their file.
+// As many keys as are told, from their file. Heap, count and text are no struct: callers have them from three places.
 #[tactic(auto, using(crate::proofs::Filed::laws_of))]
 pub fn read_keys(heap: Global, count: usize, text: &[u8]) -> Result<Vec<Key>, Failure>
     ensures { Reads count text.now result }

@@ -45,6 +45,7 @@ enum Stop {
     Io(#[from] io::Error),
 }
 
+// Written out, as a failure is one of two stops.
 impl From<Failure> for Stop {
     fn from(e: Failure) -> Stop {
         match e {
@@ -83,7 +84,7 @@ fn pair(rt: &HostRuntime, sheet: &str, first: &str, second: &str, coins: &str) -
     let heap = rt.alloc();
     let text = file(rt, sheet)?;
     let sheet = Sheet::read(heap, &text)?;
-    let inputs = sheet.inputs as usize;
+    let inputs = usize::from(sheet.inputs);
     let first = values(rt, first, inputs)?;
     let second = values(rt, second, inputs)?;
     let text = file(rt, coins)?;

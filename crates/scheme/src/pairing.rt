@@ -71,7 +71,7 @@ impl<'a> Fitting<'a> {
         ensures given { IfOk result (λ f. (f.sheet.now ≡ sheet.now) × (f.first.now ≡ first.now) × (f.second.now ≡ second.now) × (f.coins.now ≡ coins.now)) }
         ensures refused { IfErr result (λ e. pairing (circuit_of sheet.now) first.now second.now coins.now ≡ refuse e) }
     {
-        let inputs = sheet.inputs as usize;
+        let inputs = usize::from(sheet.inputs);
         if first.len() != inputs || second.len() != inputs {
             return Err(Refusal::Values);
         }

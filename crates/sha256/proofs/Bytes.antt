@@ -19,6 +19,7 @@ pub joined_four : (xs : List ℕ) → flat_map (digits 256 4) xs ≡ flat_map fo
 joined_four [] = refl
 joined_four (x ∷ xs) = ap₂ (λ (a b : List ℕ). a ++ b) (four_bytes x) (joined_four xs)
 
+-- the next two are kept, as docs/PORT.md names them; nothing cites them now
 pub four_words_are : (x y z u : ℕ) (a b c d : List ℕ) → a ≡ four x → b ≡ four y → c ≡ four z → d ≡ four u →
     written 4 a ++ (written 4 b ++ (written 4 c ++ written 4 d)) ≡ flat_map (digits 256 4) (x ∷ y ∷ z ∷ u ∷ [])
 four_words_are x y z u a b c d ea eb ec ed = rw (ea, eb, ec, ed) (sym (joined_four (x ∷ y ∷ z ∷ u ∷ [])))

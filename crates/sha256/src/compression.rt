@@ -111,7 +111,7 @@ fn following(a: u32, b: u32, c: u32, d: u32) -> u32
         .wrapping_add(d)
 }
 
-// Makes a block's schedule of its sixteen words.
+// Makes a block's schedule of its sixteen words, in place: an array handed out would be copied.
 fn extend(w: &mut [u32; 64])
     ensures { w.new ≡ schedule (take 16 w.old) }
 {

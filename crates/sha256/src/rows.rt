@@ -14,7 +14,7 @@ fn row_block(left: [u8; 16], right: [u8; 16], gate: u32, place: u8) -> [u32; 16]
 {
     let [a, b, c, d] = words_of::<4>(&left);
     let [e, f, g, h] = words_of::<4>(&right);
-    let last = u32::from(place) * 0x100_0000 + 0x80_0000;
+    let last = u32::from_be_bytes([place, 0x80, 0, 0]);
     [a, b, c, d, e, f, g, h, gate, last, 0, 0, 0, 0, 0, 296]
 }
 

@@ -18,6 +18,7 @@ pub(crate) fn words_of<const N: usize>(bytes: &[u8]) -> [u32; N]
 }
 
 // What is left of a text after its full blocks, with the bit behind it.
+#[tactic(auto, using(crate::proofs::Bytes::marked_is))]
 fn marked(rest: &[u8]) -> [u8; 64]
     requires { length rest.now < 64 }
     ensures { result ≡ rest.now ++ (128 ∷ replicate (63 - length rest.now) 0) }
@@ -29,10 +30,12 @@ fn marked(rest: &[u8]) -> [u8; 64]
 }
 
 // A block that ends with the count of a text's bits.
+#[tactic(auto, using(crate::proofs::Bytes::sized))]
 fn sized(block: [u32; 16], bits: u64) -> [u32; 16]
     ensures { result ≡ take 14 block ++ ((bits / 2 ^ 32) ∷ (bits % 2 ^ 32) ∷ []) }
 {
     let mut last = block;
+    // By shift and remainder, which is no longer than by bytes and back.
     last[14] = (bits >> 32) as u32;
     last[15] = (bits % 0x1_0000_0000) as u32;
     last

@@ -3,12 +3,14 @@ ghost use Rattle.std.specs.Prelude.{◌≡◌, ◌<◌, bit_xor};
 ghost use Rattle.std.specs.Int.{rotate_right, w32};
 ghost use Rattle.sha256.specs.Words.{choice as choice_of, majority as majority_of, shr};
 
+#[tactic(auto, unfolding(crate::specs::Words::choice))]
 pub(crate) fn choice(x: u32, y: u32, z: u32) -> u32
     ensures { result ≡ choice_of x y z }
 {
     (x & y) ^ (!x & z)
 }
 
+#[tactic(auto, unfolding(crate::specs::Words::majority))]
 pub(crate) fn majority(x: u32, y: u32, z: u32) -> u32
     ensures { result ≡ majority_of x y z }
 {
