@@ -129,6 +129,7 @@ fn one_more<T: Drop>(items: Result<Vec<T>, AllocError>, item: T) -> Result<Vec<T
 }
 
 // The parts numbered from `first` to before `end`. Where memory runs out they are read on, since a fault further on is still a fault.
+// A loop and no `try_fold`, of which the proof stayed open.
 fn many_in<T: Drop, F: Fn(u32, &[u8]) -> Result<(T, &[u8]), Refusal>>(
     heap: Global,
     first: u32,

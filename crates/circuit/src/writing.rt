@@ -48,7 +48,7 @@ impl Encode for Gate {
     }
 }
 
-// One after the other.
+// One after the other. A loop, as nothing is known of what a closure has borrowed once `try_for_each` is done.
 fn put_all<T: Encode>(text: &mut Vec<u8>, items: &[T]) -> Result<(), AllocError>
     ensures { OnOk result (text.new.items ≡ text.old.items ++ flat_map T.bytes items.now) }
 {
