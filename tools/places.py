@@ -4,8 +4,8 @@
     python3 tools/places.py [FOLDER]          the count of each point
     python3 tools/places.py POINT [FOLDER]    the places of one point, 1 to 8
 
-FOLDER is a checkout, this one if none is given. What is listed are candidates by their shape; the page says of each whether it is a
-place. Point 2 pairs functions whose words are alike once names and numbers are left out.
+FOLDER is a checkout, this one if none is given. What is listed are candidates by their shape, to be read one by one. Point 2 pairs
+functions whose words are alike once names and numbers are left out.
 """
 import difflib
 import re
