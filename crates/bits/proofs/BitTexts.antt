@@ -64,8 +64,8 @@ line_is_back bs =
     let whole : bits_text 48 (length bs) Malformed (line_of bs) ≡ Ok bs = written_back 48 (λ b. 48 + bit b) digit_read (length bs) Malformed bs refl in
     record { back = rw (no_end bs) whole; back_with_end = rw (without_end (line_of bs)) whole }
 
-pub back : (bs : List Bool) → line_text (length bs) (line_of bs) ≡ Ok bs
-back bs = (line_is_back bs).back
+pub line_back : (bs : List Bool) → line_text (length bs) (line_of bs) ≡ Ok bs
+line_back bs = (line_is_back bs).back
 
-pub back_with_end : (bs : List Bool) → line_text (length bs) (line_of bs ++ (10 ∷ [])) ≡ Ok bs
-back_with_end bs = (line_is_back bs).back_with_end
+pub line_back_with_end : (bs : List Bool) → line_text (length bs) (line_of bs ++ (10 ∷ [])) ≡ Ok bs
+line_back_with_end bs = (line_is_back bs).back_with_end

@@ -86,7 +86,7 @@ pub fn read_line(heap: Global, count: usize, text: &[u8]) -> Result<Vec<bool>, F
     LINE.read(heap, count, without_end(text))
 }
 
-// Of the library's ways from a bit to a character none is plainer.
+// The library's `char::from_digit` may give none, and would have to be unwrapped.
 fn digit_of(bit: bool) -> char
     ensures { result ≡ 48 + value_of bit }
 {
@@ -94,7 +94,7 @@ fn digit_of(bit: bool) -> char
 }
 
 // The line of some bits, without its end.
-#[tactic(auto, using(crate::proofs::BitTexts::digits_encoded, crate::proofs::BitTexts::back, crate::proofs::BitTexts::back_with_end))]
+#[tactic(auto, using(crate::proofs::BitTexts::digits_encoded, crate::proofs::BitTexts::line_back, crate::proofs::BitTexts::line_back_with_end))]
 pub fn line_of(heap: Global, bits: &[bool]) -> Result<String, AllocError>
     ensures digits { IfOk result (λ s. string_bytes s ≡ line_of bits.now) }
     ensures read_back { LineBack bits.now }

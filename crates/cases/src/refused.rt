@@ -2,7 +2,6 @@
 use crate::answers::refused;
 use circuit::{Failure, Refusal, Sheet};
 use std::alloc::Global;
-use std::process::Abort;
 use std::test::Fail;
 
 // A case on each line: the number of its refusal, or 0 where it is read, and its bytes.
@@ -57,7 +56,7 @@ struct Case {
 }
 
 // The case of a line, if it has one.
-fn case_of(rt: &impl Abort, heap: Global, line: &str) -> Result<Option<Case>, Fail> {
+fn case_in(heap: Global, line: &str) -> Result<Option<Case>, Fail> {
     let digits: Vec<u8> = line
         .chars()
         .take_while(|c| *c != '#')
@@ -67,7 +66,9 @@ fn case_of(rt: &impl Abort, heap: Global, line: &str) -> Result<Option<Case>, Fa
         return Ok(None);
     };
     let (bytes, rest) = digits.as_chunks::<2>();
-    assert!(rt; rest.is_empty());
+    if !rest.is_empty() {
+        return Err(Fail::new("half a byte"));
+    }
     Ok(Some(Case {
         text: bytes
             .iter()
@@ -81,7 +82,7 @@ fn case_of(rt: &impl Abort, heap: Global, line: &str) -> Result<Option<Case>, Fa
 fn number(heap: Global, text: &[u8]) -> Result<Option<u8>, Fail> {
     match Sheet::read(heap, text) {
         Ok(_) => Ok(None),
-        Err(Failure::Refused(refusal)) => Ok(Some(u8::from(refusal))),
+        Err(Failure::Refused(refusal)) => Ok(Some(refusal.number())),
         Err(Failure::Memory) => Err(Fail::new("out of memory")),
     }
 }
@@ -91,7 +92,7 @@ fn each_text_has_its_number(rt: HostRuntime) -> Result<(), Fail> {
     let heap = rt.alloc();
     let mut cases = 0u32;
     for line in CASES.lines() {
-        let Some(case) = case_of(&rt, heap, line)? else {
+        let Some(case) = case_in(heap, line)? else {
             continue;
         };
         assert_eq!(rt; number(heap, &case.text)?, case.refusal, "{}", line);
@@ -122,7 +123,7 @@ fn its_text_has_the_number(rt: HostRuntime) -> Result<(), Fail> {
         (Refusal::Values, 7, "refused: 7"),
     ];
     for (refusal, number, expected) in told {
-        assert_eq!(rt; u8::from(refusal), number);
+        assert_eq!(rt; refusal.number(), number);
         let text = format!(in rt.alloc(); "{refusal}")?;
         assert!(rt; text.as_str() == expected);
     }

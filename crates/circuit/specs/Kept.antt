@@ -1,5 +1,5 @@
 -- What private readers promise: a rest that is lent, and items unless memory ran out. No public promise cites it. Assumes nothing.
-use Rattle.std.specs.Prelude.{◌≡◌, ℕ, List, [], ◌∷◌, ◌++◌, IfOk, Ok, Err, vec_items, Result, Vec}
+use Rattle.std.specs.Prelude.{◌≡◌, ℕ, List, [], ◌∷◌, ◌++◌, Some, None, IfOk, Ok, Err, vec_items, Option, Result, Vec}
 use Rattle.std.specs.Borrow.{Bor}
 use Rattle.std.specs.declared.alloc.AllocError.{AllocError}
 use Rattle.circuit.specs.Format.{Part}
@@ -7,6 +7,10 @@ use Rattle.circuit.specs.Refusals.{Answer, refuse}
 use Rattle.circuit.specs.declared.refusals.Refusal.{Refusal}
 
 -- a value beside a lent rest, as a value and a list
+abbrev pub lent_front : {X : Type 0} → Option (X × Bor (List ℕ)) → Option (X × List ℕ)
+lent_front None = None
+lent_front (Some p) = Some (p.0, p.1.now)
+
 abbrev pub lent : {X : Type 0} → Result (X × Bor (List ℕ)) Refusal → Part X
 lent (Ok p) = Ok (p.0, p.1.now)
 lent (Err e) = refuse e

@@ -1,6 +1,7 @@
 //! Sheets, which are boolean circuits: their bytes, and what they mean.
 #![tactic(auto)]
 
+mod bytes;
 mod gates;
 mod reading;
 mod refusals;

@@ -7,6 +7,7 @@ ghost use Rattle.circuit.specs.Numbers.{bits};
 ghost use Rattle.circuit.specs.Refusals.{Answers};
 ghost use Rattle.circuit.specs.Promises.{Reads};
 
+use crate::bytes::number;
 use crate::gates::Gate;
 use crate::refusals::{Failure, Refusal};
 use crate::sheets::Sheet;
@@ -39,17 +40,15 @@ fn kind_in(text: &[u8]) -> Result<&[u8], Refusal>
     Ok(rest)
 }
 
-// A number of N bytes, high byte first. It and what is left stand in a pair, as in the definitions, and so does each part.
+// A number of N bytes, in a pair with what is left, as in the definitions, and so is each part. That N is at most 4 no type can say.
 fn field<const N: usize>(text: &[u8]) -> Result<(u32, &[u8]), Refusal>
     requires { N ≤ 4 }
     ensures { lent result ≡ field N text.now }
 {
-    let Some((bytes, rest)) = text.split_first_chunk::<N>() else {
+    let Some((n, rest)) = number::<N>(text) else {
         return Err(Refusal::Malformed);
     };
-    let mut word = [0; 4];
-    word[4 - N..].copy_from_slice(bytes);
-    Ok((u32::from_be_bytes(word), rest))
+    Ok((n, rest))
 }
 
 // A count of N bytes, at most `most`.

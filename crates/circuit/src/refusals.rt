@@ -21,12 +21,12 @@ pub enum Refusal {
     Values = 7,
 }
 
-// The number that a refusal is told by.
-impl From<Refusal> for u8 {
-    ghost from_gives = { λ e n. n ≡ number_of e };
-
-    fn from(e: Refusal) -> u8 {
-        e as u8
+impl Refusal {
+    // The number that a refusal is told by.
+    pub fn number(self) -> u8
+        ensures { result ≡ number_of self }
+    {
+        self as u8
     }
 }
 
@@ -34,7 +34,7 @@ impl fmt::Display for Refusal {
     ghost output = { λ e. Some (refusal_text e) };
 
     fn fmt<W: fmt::Write>(&self, f: &mut fmt::Formatter<W>) -> fmt::Result {
-        write!(f, "refused: {}", u8::from(*self))
+        write!(f, "refused: {}", self.number())
     }
 }
 

@@ -10,7 +10,7 @@ use crate::refusals::{Failure, Refusal};
 use crate::sheets::Sheet;
 use std::alloc::{AllocError, Global};
 
-// The entry of a truth table for two bits, by a match on both: a rule of the project.
+// The entry of a truth table for two bits, by a match on both (docs/DECISIONS.md, "Forms").
 fn case_of(left: bool, right: bool) -> usize
     ensures { result ≡ binary (left ∷ right ∷ []) }
 {
@@ -22,7 +22,7 @@ fn case_of(left: bool, right: bool) -> usize
     }
 }
 
-// What a gate gives where the wires made so far have these values. Its wires are lent as a slice: a rule of the project.
+// What a gate gives where the wires made so far have these values. Its wires are lent as a slice (docs/DECISIONS.md, "Forms").
 fn gate_value(wires: &[u32], gives: [bool; 4], known: &[bool]) -> bool
     requires two { length wires.now ≡ 2 }
     requires left { slice_index wires.now 0 < length known.now }

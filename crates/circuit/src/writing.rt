@@ -1,8 +1,8 @@
 // A sheet's bytes.
-ghost use Rattle.std.specs.Prelude.{◌≡◌, ℕ, List, [], ◌∷◌, ◌++◌, OnOk};
+ghost use Rattle.std.specs.Prelude.{◌≡◌, ℕ, List, ◌++◌, OnOk};
 ghost use Rattle.std.specs.List.{flat_map};
 ghost use Rattle.circuit.specs.Meaning.{circuit_of};
-ghost use Rattle.circuit.specs.Format.{gate_bytes, body};
+ghost use Rattle.circuit.specs.Format.{gate_bytes, encode};
 ghost use Rattle.circuit.specs.Numbers.{digits, binary};
 ghost use Rattle.circuit.specs.Promises.{Writes};
 
@@ -66,11 +66,11 @@ fn table_byte(gives: [bool; 4]) -> u8
     8 * u8::from(a) + 4 * u8::from(b) + 2 * u8::from(c) + u8::from(d)
 }
 
-// All that follows a sheet's kind.
 impl Encode for Sheet {
-    ghost bytes = { λ s. body (circuit_of s) };
+    ghost bytes = { λ s. encode (circuit_of s) };
 
     fn put(&self, text: &mut Vec<u8>) -> Result<(), AllocError> {
+        text.push(SHEET)?;
         self.inputs.put(text)?;
         self.opener.put(text)?;
         (self.gates.len() as u32).put(text)?;
@@ -87,7 +87,6 @@ impl Sheet {
         ensures { Writes self.now result }
     {
         let mut text = Vec::new(heap);
-        text.push(SHEET)?;
         self.put(&mut text)?;
         Ok(text)
     }

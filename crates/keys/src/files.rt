@@ -1,8 +1,8 @@
 // Files of keys.
-ghost use Rattle.std.specs.Prelude.{◌≡◌, ◌≤◌, length, IfOk, Ok};
-ghost use Rattle.keys.specs.Files.{most_keys, keys_file, parse_keys, keys_for};
+ghost use Rattle.std.specs.Prelude.{◌≡◌, ◌≤◌, length, IfOk};
+ghost use Rattle.keys.specs.Files.{most_keys, keys_file, parse_keys};
 ghost use Rattle.keys.specs.Heads.{Lent};
-ghost use Rattle.keys.specs.Promises.{Writes, Accepts, Reads};
+ghost use Rattle.keys.specs.Promises.{Writes, Reads};
 
 use crate::wires::Key;
 use circuit::{Failure, Refusal};

@@ -1,5 +1,5 @@
 // Pads of rows.
-ghost use Rattle.std.specs.Prelude.{◌≡◌, ◌^◌, [], ◌∷◌};
+ghost use Rattle.std.specs.Prelude.{◌≡◌, [], ◌∷◌};
 ghost use Rattle.std.specs.List.{flat_map};
 ghost use Rattle.circuit.specs.Numbers.{digits};
 ghost use Rattle.sha256.specs.Hash.{sha256, start, compressed};
