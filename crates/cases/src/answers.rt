@@ -4,7 +4,7 @@ use std::fmt::Debug;
 use std::process::Abort;
 use std::test::Fail;
 
-pub fn gives<T: PartialEq + Drop, E: Debug + Drop>(
+pub(crate) fn gives<T: PartialEq + Drop, E: Debug + Drop>(
     rt: &impl Abort,
     answer: Result<Vec<T>, E>,
     expected: &[T],
@@ -14,6 +14,6 @@ pub fn gives<T: PartialEq + Drop, E: Debug + Drop>(
     Ok(())
 }
 
-pub fn refused<T: Drop>(rt: &impl Abort, answer: Result<T, Failure>, expected: Refusal) {
+pub(crate) fn refused<T: Drop>(rt: &impl Abort, answer: Result<T, Failure>, expected: Refusal) {
     assert_eq!(rt; answer.err(), Some(Failure::Refused(expected)));
 }
