@@ -1,5 +1,5 @@
 -- Exclusive or of bytes has its laws, so equal terms are equal bytes. Assumes nothing.
-use Rattle.std.proofs.Common.{◌≡◌, ℕ, zero, suc, ◌+◌, ◌*◌, ◌/◌, ◌%◌, ◌^◌, ◌<◌, List, [], ◌∷◌, ◌++◌, length, replicate, sym, refl, ap, ◌∙◌, ap₂, arith}
+use Rattle.std.proofs.Common.{◌≡◌, ℕ, zero, suc, ◌+◌, ◌*◌, ◌/◌, ◌%◌, ◌^◌, ◌<◌, List, [], ◌∷◌, ◌++◌, length, get_or, replicate, sym, refl, ap, ◌∙◌, ap₂, arith}
 use mathlib.Core.List.{zip_with}
 use lib.Bits.{bit_xor, xor_assoc, xor_comm, xor_self, xor_zero_r, xor_shr, xor_mod}
 use Rattle.std.proofs.lemmas.Nat.{mod-pow-add, mod_below, div-mul-add, mod-mul-add}
@@ -43,6 +43,13 @@ bytes_size n [] b p q = p
 bytes_size n (x ∷ a) [] p q = q
 bytes_size zero (x ∷ a) (y ∷ b) p q = absurd (omega arith)
 bytes_size (suc n) (x ∷ a) (y ∷ b) p q = ap suc (bytes_size n a b (omega arith) (omega arith))
+
+pub byte_at : (a e : List ℕ) (i : ℕ) → i < length a → i < length e → get_or (xor_bytes a e) i 0 ≡ bit_xor (get_or a i 0) (get_or e i 0)
+unfolding zip_with
+byte_at [] e i p q = absurd (omega arith)
+byte_at (x ∷ a) [] i p q = absurd (omega arith)
+byte_at (x ∷ a) (y ∷ e) zero p q = refl
+byte_at (x ∷ a) (y ∷ e) (suc i) p q = byte_at a e i (omega arith) (omega arith)
 
 bytes_push : (a b : List ℕ) (x y : ℕ) → length a ≡ length b → xor_bytes (a ++ (x ∷ [])) (b ++ (y ∷ [])) ≡ xor_bytes a b ++ (bit_xor x y ∷ [])
 unfolding zip_with

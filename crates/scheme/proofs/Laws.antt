@@ -1,19 +1,18 @@
 -- The laws of exclusive or are all there: terms without pads that are equal bytes, whatever is drawn, are equal terms. Such a term is a sum of secrets and a number;
 -- drawing one secret as 1 and all others as 0 shows whether it stands in the sum an odd number of times. Assumes nothing.
 use Rattle.std.proofs.Common.{◌≡◌, ℕ, zero, suc, ◌%◌, ◌^◌, ◌<◌, ◌≤◌, Bool, true, false, List, [], ◌∷◌, ◌++◌, map, length, get_or, replicate, sym, refl, ap, ◌∙◌, arith}
-use mathlib.Core.List.{zip_with}
 use lib.Bits.{bit_xor, xor_assoc, xor_self, xor_zero_r}
 use Rattle.std.specs.Int.Digits.{number_from_digits as number}
 use Rattle.std.proofs.lemmas.Nat.{mod_below}
 use Rattle.std.proofs.lemmas.Bool.{true≢false, not-false}
 use Rattle.circuit.specs.Numbers.{bit, digits}
 use Rattle.circuit.proofs.Numbers.{number_digits}
-use Rattle.scheme.specs.Bytes.{xor_bytes, Drawn, value}
+use Rattle.scheme.specs.Bytes.{Drawn, value}
 use Rattle.scheme.specs.Coins.{◌⊕◌}
 use Rattle.scheme.specs.Promises.{Plain, AllLaws}
 use Rattle.scheme.specs.Terms.{block, Term, Equal, secret, public, xor, pad, same, flip, chain, regroup, swap, unit, twice, numbers, wraps, in_xor, ◌≈◌, sum}
 use Rattle.scheme.proofs.Bare.{drawing}
-use Rattle.scheme.proofs.Blocks.{bytes_comm, bytes_zero, digits_wrap, sound, value_size}
+use Rattle.scheme.proofs.Blocks.{bytes_comm, bytes_zero, byte_at, digits_wrap, sound, value_size}
 use Rattle.scheme.proofs.Colours.{xor_same, xor_back, xor_past}
 use Rattle.scheme.proofs.Colours.{xor_assoc as bool-assoc}
 use Rattle.scheme.proofs.Derived.{equals, off}
@@ -56,13 +55,6 @@ module _ {A : Type 0} where
       chain (wraps m) (chain (equals (ap public (sym (number_of m) ∙ ap (number 256) e ∙ number_of n))) (flip (wraps n)))
 
 -- bytes and bits
-byte_at : (a e : List ℕ) (i : ℕ) → i < length a → i < length e → get_or (xor_bytes a e) i 0 ≡ bit_xor (get_or a i 0) (get_or e i 0)
-unfolding zip_with
-byte_at [] e i p q = absurd (omega arith)
-byte_at (x ∷ a) [] i p q = absurd (omega arith)
-byte_at (x ∷ a) (y ∷ e) zero p q = refl
-byte_at (x ∷ a) (y ∷ e) (suc i) p q = byte_at a e i (omega arith) (omega arith)
-
 bits_xor : (a b : Bool) → bit_xor (bit a) (bit b) ≡ bit (a ⊕ b)
 bits_xor a b = grind arith
 
