@@ -1,6 +1,6 @@
 // What a sheet means in the plain.
-ghost use Rattle.std.specs.Prelude.{◌≡◌, ◌<◌, [], ◌∷◌, length, IfOk, vec_len, OnOk, slice_index};
-ghost use Rattle.circuit.specs.Circuit.{wire_count, GoodGates, Below, at, at_all, extended};
+ghost use Rattle.std.specs.Prelude.{◌≡◌, ◌<◌, [], ◌∷◌, length, All, IfOk, vec_len, OnOk, slice_index};
+ghost use Rattle.circuit.specs.Circuit.{wire_count, GoodGates, at, at_all, extended};
 ghost use Rattle.circuit.specs.Meaning.{circuit_of};
 ghost use Rattle.circuit.specs.Numbers.{binary};
 ghost use Rattle.circuit.specs.Promises.{Evaluates, Runs};
@@ -48,7 +48,7 @@ fn run_gates(known: &mut Vec<bool>, gates: &[Gate]) -> Result<(), AllocError>
 
 // The values of some wires.
 fn values_at(heap: Global, known: &[bool], wires: &[u32]) -> Result<Vec<bool>, AllocError>
-    requires { Below (length known.now) wires.now }
+    requires { All (λ w. w < length known.now) wires.now }
     ensures { IfOk result (λ v. v.items ≡ at_all known.now wires.now) }
 {
     wires.iter().map(|w| known[*w as usize]).collect(heap)
