@@ -1,5 +1,5 @@
 -- Bits as text: a test of all of them, and what is written is read back. Assumes nothing.
-use Rattle.std.proofs.Common.{◌≡◌, ℕ, zero, suc, ◌+◌, ◌-◌, ◌<◌, Bool, true, false, ◌&&◌, List, [], ◌∷◌, ◌++◌, map, length, get_or, is_some, Some, Ok, refl, ap, ◌∙◌, arith}
+use Rattle.std.proofs.Common.{◌≡◌, ℕ, zero, suc, ◌+◌, ◌-◌, ◌<◌, ◌≤◌, Bool, true, false, ◌&&◌, List, [], ◌∷◌, ◌++◌, map, length, get_or, is_some, Some, Ok, refl, ap, ◌∙◌, arith}
 use lib.Utf8.{encodes}
 use Rattle.std.specs.List.{list_all}
 use Rattle.std.proofs.lemmas.Bool.{eq-eqb, ne_eqb}
@@ -29,6 +29,10 @@ module _ (base : ℕ) (byte : Bool → ℕ) (own : (b : Bool) → bit_of base (b
   written_back : (n : ℕ) (e : Refusal) (bs : List Bool) → length bs ≡ n → bits_text base n e (map byte bs) ≡ Ok bs
   written_back n e bs size = rw (eq-eqb (length (map byte bs)) n (length-map bs byte ∙ size), all_written bs, same_bits bs)
 
+pub bit_le : (b : Bool) → bit b ≤ 1
+bit_le true = omega arith
+bit_le false = omega arith
+
 value_read : (b : Bool) → bit_of 0 (bit b) ≡ Some b
 value_read true = refl
 value_read false = refl
@@ -47,13 +51,13 @@ pub digits_encoded : (bs : List Bool) → encodes (line_of bs) ≡ line_of bs
 digits_encoded bs = encodes-IsAscii (line_of bs) (λ i. (digit_at bs i).0)
 
 -- a line's end is taken off, and nothing else
-without_end : (line : List ℕ) → line_without_end (line ++ (10 ∷ [])) ≡ line
+pub without_end : (line : List ℕ) → line_without_end (line ++ (10 ∷ [])) ≡ line
 without_end line =
     let len : length (line ++ (10 ∷ [])) - 1 ≡ length line = omega (arith, length_push line 10) in
     rw (len, get_or_push line 10 0 (length line) refl, take_at line (10 ∷ []) (length line) refl)
 
-no_end : (bs : List Bool) → line_without_end (line_of bs) ≡ line_of bs
-no_end bs = rw (ne_eqb (get_or (line_of bs) (length (line_of bs) - 1) 0) 10 (digit_at bs (length (line_of bs) - 1)).1)
+pub no_end : (text : List ℕ) → (get_or text (length text - 1) 0 ≡ 10 → ⊥) → line_without_end text ≡ text
+no_end text other = rw (ne_eqb (get_or text (length text - 1) 0) 10 other)
 
 digit_read : (b : Bool) → bit_of 48 (48 + bit b) ≡ Some b
 digit_read true = refl
@@ -62,7 +66,7 @@ digit_read false = refl
 pub line_is_back : (bs : List Bool) → LineBack bs
 line_is_back bs =
     let whole : bits_text 48 (length bs) Malformed (line_of bs) ≡ Ok bs = written_back 48 (λ b. 48 + bit b) digit_read (length bs) Malformed bs refl in
-    record { back = rw (no_end bs) whole; back_with_end = rw (without_end (line_of bs)) whole }
+    record { back = rw (no_end (line_of bs) (digit_at bs (length (line_of bs) - 1)).1) whole; back_with_end = rw (without_end (line_of bs)) whole }
 
 pub line_back : (bs : List Bool) → line_text (length bs) (line_of bs) ≡ Ok bs
 line_back bs = (line_is_back bs).back

@@ -7,4 +7,5 @@ pub mod Many
 mod Accepted
 mod Written
 mod Drafts
+pub mod Writes
 pub mod Lawful

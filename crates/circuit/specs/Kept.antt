@@ -1,5 +1,5 @@
 -- What private readers promise: a rest that is lent, and items unless memory ran out. No public promise cites it. Assumes nothing.
-use Rattle.std.specs.Prelude.{◌≡◌, ℕ, List, [], ◌∷◌, ◌++◌, Some, None, IfOk, Ok, Err, vec_items, Option, Result, Vec}
+use Rattle.std.specs.Prelude.{◌≡◌, ℕ, List, Some, None, IfOk, Ok, Err, vec_items, Option, Result, Vec}
 use Rattle.std.specs.Borrow.{Bor}
 use Rattle.std.specs.declared.alloc.AllocError.{AllocError}
 use Rattle.circuit.specs.Format.{Part}
@@ -23,9 +23,10 @@ lent_rest (Err e) = refuse e
 abbrev pub ReadsAs : {X : Type 0} → (ℕ → Bor (List ℕ) → Result (X × Bor (List ℕ)) Refusal → Type 0) → (ℕ → List ℕ → Part X) → Type 0
 ReadsAs {X} post one = (i : ℕ) (xs : Bor (List ℕ)) (r : Result (X × Bor (List ℕ)) Refusal) → post i xs r → lent r ≡ one i xs.now
 
--- one item more, if there were all before it
-abbrev pub OneMore : {X Z : Type 0} → Result (Vec X Z) AllocError → X → Result (Vec X Z) AllocError → Type 0
-OneMore {X} {Z} items x r = IfOk r (λ v. (was : Vec X Z) × (items ≡ Ok was) × (vec_items v ≡ vec_items was ++ (x ∷ [])))
+-- the fault, or the rest
+abbrev pub Skipped : {X : Type 0} → Result (Bor (List ℕ)) Refusal → Part (List X) → Type 0
+Skipped {X} (Ok rest) m = (xs : List X) × (m ≡ Ok (xs, rest.now))
+Skipped (Err e) m = m ≡ refuse e
 
 -- the fault, or the rest and, unless memory ran out, the items
 abbrev pub Kept : {X Z : Type 0} → Result (Result (Vec X Z) AllocError × Bor (List ℕ)) Refusal → Part (List X) → Type 0

@@ -1,7 +1,7 @@
 // A sheet from its bytes: each part is read to its end or its first fault.
 ghost use Rattle.std.specs.Prelude.{◌≡◌, ◌-◌, ◌≤◌};
 ghost use Rattle.circuit.specs.Format.{kind, field, count, wire, gate, head, many, parse};
-ghost use Rattle.circuit.specs.Kept.{lent, lent_rest, ReadsAs, Kept, OneMore};
+ghost use Rattle.circuit.specs.Kept.{lent, lent_rest, ReadsAs, Skipped, Kept};
 ghost use Rattle.circuit.specs.Meaning.{circuit_of};
 ghost use Rattle.circuit.specs.Numbers.{bits};
 ghost use Rattle.circuit.specs.Refusals.{Answers};
@@ -118,13 +118,22 @@ fn head_in(text: &[u8]) -> Result<(Head, &[u8]), Refusal>
     ))
 }
 
-// What was read so far with one item more, or the error once memory ran out.
-fn one_more<T: Drop>(items: Result<Vec<T>, AllocError>, item: T) -> Result<Vec<T>, AllocError>
-    ensures { OneMore items item result }
+// What follows the parts numbered from `first` to before `end`, which are read for their faults alone.
+fn skip_parts<T: Drop, F: Fn(u32, &[u8]) -> Result<(T, &[u8]), Refusal>>(
+    first: u32,
+    end: u32,
+    read: F,
+    text: &[u8],
+) -> Result<&[u8], Refusal>
+    requires { F.IsAlwaysCallable read }
+    ensures { (one : _) → ReadsAs (F.post read) one → Skipped result (many one (end - first) first text.now) }
 {
-    let mut items = items?;
-    items.push(item)?;
-    Ok(items)
+    let mut rest = text;
+    for i in first..end {
+        let (_, after) = read(i, rest)?;
+        rest = after;
+    }
+    Ok(rest)
 }
 
 // The parts numbered from `first` to before `end`. Where memory runs out they are read on, since a fault further on is still a fault.
@@ -139,17 +148,20 @@ fn many_in<T: Drop, F: Fn(u32, &[u8]) -> Result<(T, &[u8]), Refusal>>(
     requires { F.IsAlwaysCallable read }
     ensures { (one : _) → ReadsAs (F.post read) one → Kept result (many one (end - first) first text.now) }
 {
-    let mut items = Ok(Vec::new(heap));
+    let mut items = Vec::new(heap);
     let mut rest = text;
     for i in first..end {
         let (item, after) = read(i, rest)?;
-        items = one_more(items, item);
+        if items.push(item).is_err() {
+            return Ok((Err(AllocError), skip_parts(i + 1, end, read, after)?));
+        }
         rest = after;
     }
-    Ok((items, rest))
+    Ok((Ok(items), rest))
 }
 
-// A sheet, as far as memory holds.
+// A sheet, as far as memory holds. Never inlined: in the midst of a caller's code the loops over parts are slower.
+#[inline(never)]
 fn sheet_in(heap: Global, text: &[u8]) -> Result<Sheet, Failure>
     ensures { Answers circuit_of result (parse text.now) }
 {

@@ -30,12 +30,12 @@ new_key seen (suc n) xs p bytes e =
         rw same ((length-take-le 16 xs (leb-true 16 (length xs) long), All-take (λ b. b < 256) 16 xs bytes), new, All-drop (λ b. b < 256) 16 xs bytes)
 
 -- keys of wires, as they are by name, apart from each other and from stems seen before
-record Fresh (seen : List ℕ) (n : ℕ) (ws : List WireKeys) : Type 0 where
-  size : length ws ≡ n
-  blocks : (w : ℕ) (c : Bool) → w < n → Block (key_of ws (key w c))
-  colours : (w : ℕ) (c : Bool) → w < n → colour_of (key_of ws (key w c)) ≡ c
-  news : (w : ℕ) (c : Bool) → w < n → among seen (stem (key_of ws (key w c))) ≡ false
-  apart : (v w : ℕ) (c d : Bool) → v < n → w < n → stem (key_of ws (key v c)) ≡ stem (key_of ws (key w d)) → (v ≡ w) × (c ≡ d)
+pub record Fresh (seen : List ℕ) (n : ℕ) (ws : List WireKeys) : Type 0 where
+  pub size : length ws ≡ n
+  pub blocks : (w : ℕ) (c : Bool) → w < n → Block (key_of ws (key w c))
+  pub colours : (w : ℕ) (c : Bool) → w < n → colour_of (key_of ws (key w c)) ≡ c
+  pub news : (w : ℕ) (c : Bool) → w < n → among seen (stem (key_of ws (key w c))) ≡ false
+  pub apart : (v w : ℕ) (c d : Bool) → v < n → w < n → stem (key_of ws (key v c)) ≡ stem (key_of ws (key w d)) → (v ≡ w) × (c ≡ d)
 
 none : (seen : List ℕ) → Fresh seen 0 []
 none seen =

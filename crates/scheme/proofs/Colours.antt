@@ -1,5 +1,6 @@
--- Exclusive or: its laws. Assumes nothing.
-use Rattle.std.proofs.Common.{◌≡◌, Bool, false, arith}
+-- Exclusive or: its laws, and as `!=` on bits has it. Assumes nothing.
+use Rattle.std.proofs.Common.{◌≡◌, Bool, true, false, not, refl, arith}
+use mathlib.Core.Bool.{beq}
 use Rattle.scheme.specs.Coins.{◌⊕◌}
 
 pub xor_twice : (c v : Bool) → c ⊕ v ⊕ v ≡ c
@@ -22,6 +23,13 @@ xor_back c v = grind arith
 
 pub xor_same : (x : Bool) → x ⊕ x ≡ false
 xor_same x = grind arith
+
+-- what `!=` on bits means
+pub xor_differs : (x y : Bool) → x ⊕ y ≡ not (beq x y)
+xor_differs true true = refl
+xor_differs true false = refl
+xor_differs false true = refl
+xor_differs false false = refl
 
 pub same_from_xor : (x y : Bool) → x ⊕ y ≡ false → x ≡ y
 same_from_xor x y e = grind arith

@@ -4,7 +4,7 @@ use Rattle.std.specs.List.{flat_map, range_with_len}
 use Rattle.std.specs.Int.Digits.{number_from_digits}
 use Rattle.std.specs.Int.{to_be_bytes, from_be_bytes}
 use Rattle.std.specs.Simd.{first_chunks}
-use Rattle.std.proofs.lemmas.List.{drop-drop, drop-replicate, length-drop, length-take-le, get_or-take, ext_get_or, set_at, take_all}
+use Rattle.std.proofs.lemmas.List.{drop_more, drop-drop, drop-replicate, length-drop, length-take-le, get_or-take, ext_get_or, set_at, take_all}
 use Rattle.std.proofs.lemmas.List.FromFn.{fill_by_all, length-map-range_with_len, get_or-map-range_with_len}
 use Rattle.circuit.specs.Numbers.{digits}
 use Rattle.circuit.proofs.Numbers.{four_bytes}
@@ -58,6 +58,18 @@ bytes_are n h r most is =
 pub all_bytes_are : (h r : List ℕ) → length h ≡ 8 → r ≡ take 32 (flat_map (digits 256 4) h) → r ≡ flat_map (digits 256 4) h
 all_bytes_are h r eight is =
     is ∙ ap (take 32) (joined_four h) ∙ take_all 32 (flat_map four h) (omega (arith, length_four h)) ∙ sym (joined_four h)
+
+-- a word from its bytes
+word_is : (b : List ℕ) (j : ℕ) → 4 * j + 3 < length b →
+    get_or b (4 * j) 0 * 16777216 + get_or b (4 * j + 1) 0 * 65536 + get_or b (4 * j + 2) 0 * 256 + get_or b (4 * j + 3) 0 ≡ word b j
+word_is b j below =
+    let e0 = drop_more b (4 * j) 0 (omega arith) in
+    let e1 = drop_more b (4 * j + 1) 0 (omega arith) in
+    let e2 = drop_more b (4 * j + 2) 0 (omega arith) in
+    let e3 = drop_more b (4 * j + 3) 0 below in
+    let n2 : 4 * j + 1 + 1 ≡ 4 * j + 2 = omega arith in
+    let n3 : 4 * j + 2 + 1 ≡ 4 * j + 3 = omega arith in
+    rw (e0, e1, n2, e2, n3, e3) (omega arith)
 
 -- some words from their bytes
 chunk_is : (n : ℕ) (b : List ℕ) (j : ℕ) → j < n → get_or (first_chunks 4 n b) j [] ≡ take 4 (drop (4 * j) b)

@@ -12,6 +12,13 @@ use Rattle.sha256.specs.Turns.{value_from}
 use Rattle.sha256.proofs.Bytes.{four}
 use Rattle.sha256.proofs.Written.{written, written_all}
 
+length_padding : (n : ℕ) → length (padding n) ≡ zeros n + 9
+length_padding n =
+    let a = length-append (replicate (zeros n) 0) (digits 256 8 (8 * n)) in
+    let b : length (replicate {A = ℕ} (zeros n) 0) ≡ zeros n = length-replicate (zeros n) 0 in
+    let d = length_digits 256 8 (8 * n) in
+    omega arith
+
 blocks_suc : (n : ℕ) (h b : List ℕ) → blocks (suc n) h b ≡ blocks n (compressed h (words (take 64 b))) (drop 64 b)
 unfolding blocks
 blocks_suc n h b = refl

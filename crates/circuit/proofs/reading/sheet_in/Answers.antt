@@ -1,11 +1,10 @@
-use Rattle.std.proofs.Common.{◌≡◌, ℕ, ◌+◌, is_ok, List, Ok, vec_items, Result, Vec, refl, ap, rules}
+use Rattle.std.proofs.Common.{◌≡◌, ℕ, ◌+◌, is_ok, IfOk, List, Ok, vec_items, Result, Vec, refl, ap, rules}
 use Rattle.std.proofs.lemmas.Result.{err_from_is_err_and}
 use Rattle.circuit.specs.Format.{gate, wire, assembled, parse}
 use Rattle.std.specs.declared.alloc.AllocError.{AllocError}
 use Rattle.std.specs.declared.alloc.Global.{Global}
 use Rattle.circuit.specs.declared.gates.Gate.{Gate}
 use Rattle.circuit.specs.declared.reading.Head.{Head}
-use Rattle.circuit.proofs.Many.{Are}
 use Rattle.circuit.proofs.Drafts.{count_fault, outputs_fault, left_over, all_read, laws_of}
 use Rattle.circuit.proofs.reading.sheet_in.Goals as goal
 use Rattle.circuit.proofs.reading.sheet_in.Goals.{Else-not-is_empty, In_ok-outputs-2}
@@ -30,6 +29,10 @@ returns-then-not-is_empty c =
     let made = c.in_ok-head.head.inputs + c.in_ok-head.head.gates in
     let o = c.in_ok-outputs.ensures (λ _. wire made) (λ i xs r p. search rules) in
     left_over c.args.text.now made refl c.in_ok-head.ensures g.1 o.0 c.in_ok-outputs.rest.now c.in_ok-count.ensures o.1 c.if-not-is_empty.ensures
+
+-- these items, unless memory ran out
+abbrev Are : {X Z : Type 0} → Result (Vec X Z) AllocError → List X → Type 0
+Are r xs = IfOk r (λ v. vec_items v ≡ xs)
 
 -- a text is a sheet, of which memory held these gates and outputs
 abbrev Means : List ℕ → Head → Result (Vec Gate Global) AllocError → Result (Vec ℕ Global) AllocError → Type 0

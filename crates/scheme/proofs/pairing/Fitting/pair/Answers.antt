@@ -32,8 +32,10 @@ module _ (c : After-first_difference) where
 
 pub returns-in-Some : goal.returns-in-Some
 returns-in-Some c =
+    let f = c.args.self.now in
     let at = (goal.at.returns-in-Some c).After-first_difference in
-    let both = differ_answer c.args.self.now c.in-Some.output (sym c.in-Some.is ∙ difference_is at) in
+    let both = differ_answer (circuit_of f.sheet.now) f.first.now f.second.now f.coins.now (well_formed f.sheet.now) f.first_fits f.second_fits f.coins_fit
+    c.in-Some.output (sym c.in-Some.is ∙ difference_is at) in
     record { answer = both.0; meaning = both.1 }
 
 pub returns : goal.returns
@@ -45,5 +47,6 @@ returns c =
     c.in_ok-paired_coins-in-None.ensures
     ∙ rw (c.deref-in-None.ensures.value ∙ before_is at, c.deref-in-None-2.ensures.value ∙ after_is at)
     (zipped (circuit_of f.sheet.now) f.first.now f.second.now f.coins.now (well_formed f.sheet.now) f.first_fits f.second_fits f.coins_fit) in
-    let both = paired_answer f ds (sym c.in-None.is ∙ difference_is at) coins in
+    let both = paired_answer (circuit_of f.sheet.now) f.first.now f.second.now f.coins.now (well_formed f.sheet.now) f.first_fits f.second_fits f.coins_fit
+    ds (sym c.in-None.is ∙ difference_is at) coins in
     record { answer = both.0; meaning = both.1 }
