@@ -1,4 +1,4 @@
--- The loops that read one part after the other: their start, a turn, a fault in a part, their end, and another that goes on. Assumes nothing.
+-- The loops that read one part after the other: their start, a turn, a fault in a part, their end, and where another reader goes on. Assumes nothing.
 use Rattle.std.proofs.Common.{◌≡◌, ℕ, suc, ◌+◌, ◌-◌, ◌<◌, ◌≤◌, List, [], ◌∷◌, ◌++◌, Ok, Err, vec_items, Result, Vec, sym, refl, ap, ◌∙◌, append_assoc, arith}
 use Rattle.std.specs.Borrow.{Bor}
 use Rattle.std.proofs.lemmas.List.{append-nil}

@@ -119,6 +119,7 @@ fn head_in(text: &[u8]) -> Result<(Head, &[u8]), Refusal>
 }
 
 // What follows the parts numbered from `first` to before `end`, which are read for their faults alone.
+// A loop and no chain, as a part begins where the one before it ends.
 fn skip_parts<T: Drop, F: Fn(u32, &[u8]) -> Result<(T, &[u8]), Refusal>>(
     first: u32,
     end: u32,
@@ -137,7 +138,7 @@ fn skip_parts<T: Drop, F: Fn(u32, &[u8]) -> Result<(T, &[u8]), Refusal>>(
 }
 
 // The parts numbered from `first` to before `end`. Where memory runs out they are read on, since a fault further on is still a fault.
-// A loop and no `try_fold`, of which the proof stayed open.
+// A loop for the same reason.
 fn many_in<T: Drop, F: Fn(u32, &[u8]) -> Result<(T, &[u8]), Refusal>>(
     heap: Global,
     first: u32,

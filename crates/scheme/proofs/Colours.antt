@@ -1,4 +1,4 @@
--- Exclusive or: its laws, and as `!=` on bits has it. Assumes nothing.
+-- Exclusive or: its laws, and what `!=` on bits is. Assumes nothing.
 use Rattle.std.proofs.Common.{◌≡◌, Bool, true, false, not, refl, arith}
 use mathlib.Core.Bool.{beq}
 use Rattle.scheme.specs.Coins.{◌⊕◌}

@@ -60,7 +60,7 @@ all_bytes_are h r eight is =
     is ∙ ap (take 32) (joined_four h) ∙ take_all 32 (flat_map four h) (omega (arith, length_four h)) ∙ sym (joined_four h)
 
 -- a word from its bytes
-word_is : (b : List ℕ) (j : ℕ) → 4 * j + 3 < length b →
+pub word_is : (b : List ℕ) (j : ℕ) → 4 * j + 3 < length b →
     get_or b (4 * j) 0 * 16777216 + get_or b (4 * j + 1) 0 * 65536 + get_or b (4 * j + 2) 0 * 256 + get_or b (4 * j + 3) 0 ≡ word b j
 word_is b j below =
     let e0 = drop_more b (4 * j) 0 (omega arith) in
